@@ -1,0 +1,5 @@
+pub mod Runs
+pub mod Exact
+mod Sorts
+pub mod Unique
+pub mod Cut

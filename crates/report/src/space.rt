@@ -1,0 +1,24 @@
+// The memory of a report.
+ghost use mathlib.Core.Path.{_≡_};
+ghost use Prim.Native.Nat.{_≤_};
+ghost use Rattle.std.specs.Of.String.{string-len, string-cap};
+use std::alloc::AllocError;
+use std::alloc::Global;
+
+// Room for the longest job and for its text, asked for before a file is looked at.
+#[derive(Drop)]
+pub struct Space {
+    pub(crate) job: job::space::Space,
+    pub(crate) text: String,
+    ghost none: { string-len text ≡ 0 },
+    ghost room: { 144640 ≤ string-cap text },
+}
+
+impl Space {
+    // An `Err` says that there is no memory.
+    pub fn new(heap: Global) -> Result<Space, AllocError> {
+        let job = job::space::Space::new(heap)?;
+        let text = String::with_capacity(heap, 144640)?;
+        Ok(Space { job, text })
+    }
+}
