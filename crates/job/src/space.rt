@@ -1,8 +1,13 @@
 // The memory of a job.
 ghost use mathlib.Core.Path.{_≡_};
 ghost use Prim.Native.Nat.{_≤_};
-ghost use Rattle.std.specs.Of.Vec.{vec-len, vec-cap};
+ghost use mathlib.Core.List.{[]};
+ghost use Rattle.std.specs.Of.Vec.{vec-items, vec-len, vec-cap};
+ghost use Rattle.std.specs.Vec.{made};
 use jobfile::parts::Frame;
+use jobfile::parts::MOST_FRAMES;
+use jobfile::parts::MOST_POINTS;
+use jobfile::parts::MOST_STEPS;
 use jobfile::parts::Point;
 use jobfile::parts::Step;
 use std::alloc::AllocError;
@@ -24,10 +29,12 @@ pub struct Space {
 
 impl Space {
     // An `Err` says that there is no memory.
-    pub fn new(heap: Global) -> Result<Space, AllocError> {
-        let steps = Vec::with_capacity(heap, 256)?;
-        let points = Vec::with_capacity(heap, 1024)?;
-        let frames = Vec::with_capacity(heap, 256)?;
+    pub fn new(heap: Global) -> Result<Space, AllocError>
+        ensures { λ r. ⌜ made r (λ s. (vec-items (s .steps) ≡ []) × (vec-items (s .points) ≡ []) × (vec-items (s .frames) ≡ [])) ⌝ }
+    {
+        let steps = Vec::with_capacity(heap, MOST_STEPS as usize)?;
+        let points = Vec::with_capacity(heap, MOST_POINTS as usize)?;
+        let frames = Vec::with_capacity(heap, MOST_FRAMES as usize)?;
         Ok(Space {
             steps,
             points,

@@ -10,8 +10,8 @@ use mir.Syntax.{w32}
 use Rattle.std.specs.Joined.{joined}
 use Rattle.std.specs.Vec.{Every}
 use Rattle.integers.specs.declared.fraction.Fraction.{Fraction}
-use Rattle.numbers.specs.declared.types.Pixel.{Pixel}
-use Rattle.numbers.specs.Pixels.{pixel-of, pixel-less}
+use Rattle.pixels.specs.declared.types.Pixel.{Pixel}
+use Rattle.pixels.specs.Pixels.{pixel-of, pixel-less}
 use Rattle.jobfile.specs.declared.faults.ReaderFault.{ReaderFault}
 use Rattle.jobfile.specs.declared.faults.ReaderFault.the-variants.{Short, TooMany, UnknownCode, Denominator}
 use Rattle.jobfile.specs.declared.faults.FrameFault.the-variants.{Backwards}

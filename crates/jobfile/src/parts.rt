@@ -1,6 +1,16 @@
 // The parts of a job, with each number as the file writes it.
 use integers::fraction::Fraction;
 
+// How many steps, points and frames a job may hold.
+pub const MOST_STEPS: u16 = 256;
+
+pub const MOST_POINTS: u16 = 1024;
+
+pub const MOST_FRAMES: u16 = 256;
+
+// The bytes of the longest job: 256 solid steps, 1,024 points and 256 frames, each section after its count.
+pub const LONGEST: usize = 49414;
+
 // What a step joins: the numbers of its form, in field order.
 #[derive(Clone, Copy)]
 pub enum Form {

@@ -1,7 +1,7 @@
 // The arithmetic of Count, which wraps.
 ghost use mathlib.Core.Path.{_≡_};
-ghost use lib.IntN.{negℤ, _+ℤ_, _-ℤ_, _*ℤ_};
-ghost use lib.Signed.{quotZ};
+ghost use lib.IntN.{pos, negℤ, _+ℤ_, _-ℤ_, _*ℤ_};
+ghost use Rattle.integers.specs.Rounds.{truncated};
 ghost use Rattle.numbers.specs.Counts.{count, count-ops};
 use crate::types::Count;
 use scalar::Ring;
@@ -41,6 +41,9 @@ pub impl Scalar for Count as CountScalar {
     }
 
     fn div(self, other: Count) -> Count {
+        if other.value == 0 {
+            return exact(0);
+        }
         quotient(self.value, other.value)
     }
 
@@ -99,13 +102,10 @@ fn negative(a: i32) -> Count
     }
 }
 
-// a / b rounded toward zero, which may wrap, and zero where `b` is zero.
 fn quotient(a: i32, b: i32) -> Count
-    ensures { λ r. ⌜ r ≡ count (quotZ a b) ⌝ }
+    requires { ⌜ (b ≡ pos 0 → ⊥) ⌝ }
+    ensures { λ r. ⌜ r ≡ count (truncated a b) ⌝ }
 {
-    if b == 0 {
-        return exact(0);
-    }
     Count {
         value: a.wrapping_div(b),
     }

@@ -1,6 +1,4 @@
-// The scalars that are no residues: Real, Count, Pixel and Whole.
+// The scalars that are the machine's own: Real, an f64, and Count, an i32 that wraps.
 pub mod count;
-pub mod pixel;
 pub mod real;
 pub mod types;
-pub mod whole;

@@ -18,7 +18,7 @@ use jobfile::parts::Form;
 use jobfile::parts::Frame;
 use jobfile::parts::Point;
 use jobfile::parts::Step;
-use numbers::types::Pixel;
+use pixels::types::Pixel;
 use residues::types::Residue;
 
 fn name_of(f: &Form) -> &'static str

@@ -10,7 +10,7 @@ ghost use Rattle.report.specs.Text.{numbers-text, residue-value, pixel-value};
 use crate::text::put;
 use crate::text::put_signed;
 use integers::fraction::Fraction;
-use numbers::types::Pixel;
+use pixels::types::Pixel;
 use residues::types::Residue;
 
 // A scalar that shows a number of the file by an integer.

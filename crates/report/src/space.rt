@@ -1,7 +1,9 @@
 // The memory of a report.
 ghost use mathlib.Core.Path.{_≡_};
 ghost use Prim.Native.Nat.{_≤_};
-ghost use Rattle.std.specs.Of.String.{string-len, string-cap};
+ghost use mathlib.Core.List.{[]};
+ghost use Rattle.std.specs.Of.String.{string-bytes, string-len, string-cap};
+ghost use Rattle.std.specs.Vec.{made};
 use std::alloc::AllocError;
 use std::alloc::Global;
 
@@ -16,7 +18,9 @@ pub struct Space {
 
 impl Space {
     // An `Err` says that there is no memory.
-    pub fn new(heap: Global) -> Result<Space, AllocError> {
+    pub fn new(heap: Global) -> Result<Space, AllocError>
+        ensures { λ r. ⌜ made r (λ s. string-bytes (s .text) ≡ []) ⌝ }
+    {
         let job = job::space::Space::new(heap)?;
         let text = String::with_capacity(heap, 144640)?;
         Ok(Space { job, text })

@@ -1,11 +1,15 @@
 // The arithmetic of Residue.
 ghost use mathlib.Core.Path.{_≡_};
-ghost use lib.IntN.{_*ℤ_};
+ghost use lib.IntN.{ℤ, pos};
+ghost use lib.Signed.{leZ};
+ghost use mathlib.Core.Bool.{true};
+ghost use Rattle.integers.specs.Moduli.{reduced};
 ghost use Rattle.residues.specs.Residues.{residue, residue-of, residue-ops};
 use crate::modular::invert;
 use crate::modular::reduce;
 use crate::types::Residue;
 use integers::fraction::Fraction;
+use integers::rounding::product;
 use scalar::Field;
 use scalar::Ring;
 use scalar::Scalar;
@@ -38,7 +42,7 @@ pub impl Scalar for Residue as ResidueScalar {
     }
 
     fn mul(self, other: Residue) -> Residue {
-        product(self.value, other.value)
+        fit(product(self.value, other.value))
     }
 
     fn neg(self) -> Residue {
@@ -46,7 +50,7 @@ pub impl Scalar for Residue as ResidueScalar {
     }
 
     fn div(self, other: Residue) -> Residue {
-        product(self.value, invert(other.value as u32, PRIME) as i32)
+        fit(product(self.value, invert(other.value as u32, PRIME) as i32))
     }
 
     fn eq(self, other: Residue) -> bool {
@@ -54,7 +58,8 @@ pub impl Scalar for Residue as ResidueScalar {
     }
 
     fn to_plain(self) -> i32 {
-        self.value
+        let Residue { value } = self;
+        value
     }
 
     fn from_plain(value: i32) -> Residue {
@@ -79,18 +84,18 @@ impl Residue {
     }
 }
 
+// The residue of every integer that `value` is the remainder of.
+fn held(value: i32) -> Residue
+    requires low { ⌜ leZ (pos 0) value ≡ true ⌝ }
+    requires high { ⌜ leZ value (pos 65520) ≡ true ⌝ }
+    ensures { λ r. ⌜ ((z : ℤ) → value ≡ reduced 65521 z → r ≡ residue z) ⌝ }
+{
+    Residue { value }
+}
+
 // The residue of `z`.
 fn fit(z: i64) -> Residue
     ensures { λ r. ⌜ r ≡ residue z ⌝ }
 {
-    Residue {
-        value: reduce(z, PRIME),
-    }
-}
-
-// The residue of a * b.
-fn product(a: i32, b: i32) -> Residue
-    ensures { λ r. ⌜ r ≡ residue (a *ℤ b) ⌝ }
-{
-    fit(a as i64 * b as i64)
+    held(reduce(z, PRIME))
 }

@@ -91,3 +91,10 @@ pub trait Tag: Copy {
     fn tag() -> Self
         ensures { λ r. ⌜ r ≡ label ⌝ };
 }
+
+// A ring has two values that differ, so that a scalar with a single value cannot claim to be one.
+pub fn not_trivial<T: Ring>()
+    ensures { λ _. ⌜ (((x y : T) → x ≡ y) → ⊥) ⌝ }
+{
+    T::ring_laws();
+}

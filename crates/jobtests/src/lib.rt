@@ -1,0 +1,3 @@
+// Tests of the reader and of its refusals, run on files that a shop could meet.
+#[cfg(test)]
+mod tests;

@@ -1,6 +1,0 @@
-use borrow.Author.Needs.{needs}
-use Rattle.numbers.proofs.Same.{same-pixel}
-use Rattle.numbers.proofs.pixel.held.Needs as need
-
-pub returns : need.returns
-returns c z e = same-pixel _ _ (search needs)
