@@ -1,5 +1,7 @@
 // Answers questions about the ported functions: each line of standard input is `SCALAR FUNCTION numbers…`, and each line of
 // standard output the answer. The same questions can be asked of euclid itself (oracle/README.md has the protocol).
+#![tactic(auto)]
+
 mod flats;
 mod number;
 mod ordered;

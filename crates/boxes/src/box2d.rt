@@ -18,13 +18,13 @@ impl<T, U> Box2D<T, U> {
 
 impl<T: Scalar, U: Copy> Box2D<T, U> {
     pub fn size(&self) -> Size2D<T, U>
-        ensures { result ≡ box_size ops self.now }
+        ensures { result ≡ box_size T.ops self.now }
     {
         self.max.sub(self.min).to_size()
     }
 
     pub fn to_rect(&self) -> Rect<T, U>
-        ensures { result ≡ box_rect ops self.now }
+        ensures { result ≡ box_rect T.ops self.now }
     {
         Rect {
             origin: self.min,
@@ -33,7 +33,7 @@ impl<T: Scalar, U: Copy> Box2D<T, U> {
     }
 
     pub fn eq(&self, other: &Box2D<T, U>) -> bool
-        ensures { result ≡ eq_boxes2 ops self.now other.now }
+        ensures { result ≡ eq_boxes2 T.ops self.now other.now }
     {
         self.min.eq(&other.min) && self.max.eq(&other.max)
     }
@@ -41,7 +41,7 @@ impl<T: Scalar, U: Copy> Box2D<T, U> {
 
 impl<T: Scalar, U: Tag> Box2D<T, U> {
     pub fn zero() -> Box2D<T, U>
-        ensures { result ≡ box2 (point2_of T.Scalar.ops.zero T.Scalar.ops.zero U.Tag.label) (point2_of T.Scalar.ops.zero T.Scalar.ops.zero U.Tag.label) }
+        ensures { result ≡ box2 (point2_of T.ops.zero T.ops.zero U.label) (point2_of T.ops.zero T.ops.zero U.label) }
     {
         Box2D::new(Point2D::zero(), Point2D::zero())
     }
@@ -50,7 +50,7 @@ impl<T: Scalar, U: Tag> Box2D<T, U> {
 impl<T: Ordered, U: Copy> Box2D<T, U> {
     // Takes in one point more.
     pub fn grow(&mut self, p: Point2D<T, U>)
-        ensures { self.new ≡ grown2 less self.old p }
+        ensures { self.new ≡ grown2 T.less self.old p }
     {
         self.min.x = smaller(self.min.x, p.x);
         self.max.x = larger(self.max.x, p.x);
@@ -60,7 +60,7 @@ impl<T: Ordered, U: Copy> Box2D<T, U> {
 
     // Takes in all of the points, one at a time.
     fn grow_by(&mut self, points: &[Point2D<T, U>])
-        ensures { self.new ≡ fold (grown2 less) self.old points.now }
+        ensures { self.new ≡ fold (grown2 T.less) self.old points.now }
     {
         for p in points {
             self.grow(*p);
@@ -71,7 +71,7 @@ impl<T: Ordered, U: Copy> Box2D<T, U> {
 impl<T: Ordered, U: Tag> Box2D<T, U> {
     // The smallest box around the points.
     pub fn from_points(points: &[Point2D<T, U>]) -> Box2D<T, U>
-        ensures { result ≡ box_of2 T.Ordered.less T.Scalar.ops.zero U.Tag.label points.now }
+        ensures { result ≡ box_of2 T.less T.ops.zero U.label points.now }
     {
         if points.is_empty() {
             return Box2D::zero();

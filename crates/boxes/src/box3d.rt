@@ -18,7 +18,7 @@ impl<T, U> Box3D<T, U> {
 
 impl<T: Scalar, U: Copy> Box3D<T, U> {
     pub fn eq(&self, other: &Box3D<T, U>) -> bool
-        ensures { result ≡ eq_boxes3 ops self.now other.now }
+        ensures { result ≡ eq_boxes3 T.ops self.now other.now }
     {
         self.min.eq(&other.min) && self.max.eq(&other.max)
     }
@@ -26,7 +26,7 @@ impl<T: Scalar, U: Copy> Box3D<T, U> {
 
 impl<T: Scalar, U: Tag> Box3D<T, U> {
     pub fn zero() -> Box3D<T, U>
-        ensures { result ≡ box3 (point3_of T.Scalar.ops.zero T.Scalar.ops.zero T.Scalar.ops.zero U.Tag.label) (point3_of T.Scalar.ops.zero T.Scalar.ops.zero T.Scalar.ops.zero U.Tag.label) }
+        ensures { result ≡ box3 (point3_of T.ops.zero T.ops.zero T.ops.zero U.label) (point3_of T.ops.zero T.ops.zero T.ops.zero U.label) }
     {
         Box3D::new(Point3D::zero(), Point3D::zero())
     }
@@ -35,7 +35,7 @@ impl<T: Scalar, U: Tag> Box3D<T, U> {
 impl<T: Ordered, U: Copy> Box3D<T, U> {
     // Takes in one point more.
     pub fn grow(&mut self, p: Point3D<T, U>)
-        ensures { self.new ≡ grown3 less self.old p }
+        ensures { self.new ≡ grown3 T.less self.old p }
     {
         self.min.x = smaller(self.min.x, p.x);
         self.max.x = larger(self.max.x, p.x);
@@ -47,7 +47,7 @@ impl<T: Ordered, U: Copy> Box3D<T, U> {
 
     // Takes in all of the points, one at a time.
     fn grow_by(&mut self, points: &[Point3D<T, U>])
-        ensures { self.new ≡ fold (grown3 less) self.old points.now }
+        ensures { self.new ≡ fold (grown3 T.less) self.old points.now }
     {
         for p in points {
             self.grow(*p);
@@ -58,7 +58,7 @@ impl<T: Ordered, U: Copy> Box3D<T, U> {
 impl<T: Ordered, U: Tag> Box3D<T, U> {
     // The smallest box around the points.
     pub fn from_points(points: &[Point3D<T, U>]) -> Box3D<T, U>
-        ensures { result ≡ box_of3 T.Ordered.less T.Scalar.ops.zero U.Tag.label points.now }
+        ensures { result ≡ box_of3 T.less T.ops.zero U.label points.now }
     {
         if points.is_empty() {
             return Box3D::zero();

@@ -5,13 +5,13 @@ ghost use Rattle.boxes.specs.Boxes.{smaller as smaller_of, larger as larger_of};
 use scalar::Ordered;
 
 pub(crate) fn smaller<T: Ordered>(a: T, b: T) -> T
-    ensures { result ≡ smaller_of less a b }
+    ensures { result ≡ smaller_of T.less a b }
 {
     if b.lt(a) { b } else { a }
 }
 
 pub(crate) fn larger<T: Ordered>(a: T, b: T) -> T
-    ensures { result ≡ larger_of less a b }
+    ensures { result ≡ larger_of T.less a b }
 {
     if a.lt(b) { b } else { a }
 }

@@ -25,13 +25,13 @@ impl<T: Copy, U: Copy> Rect<T, U> {
 
 impl<T: Scalar, U: Copy> Rect<T, U> {
     pub fn max(&self) -> Point2D<T, U>
-        ensures { result ≡ point_add ops self.now.origin self.now.size }
+        ensures { result ≡ point_add T.ops self.now.origin self.now.size }
     {
         self.origin.add(self.size)
     }
 
     pub fn to_box2d(&self) -> Box2D<T, U>
-        ensures { result ≡ rect_box ops self.now }
+        ensures { result ≡ rect_box T.ops self.now }
     {
         Box2D {
             min: self.min(),
@@ -40,7 +40,7 @@ impl<T: Scalar, U: Copy> Rect<T, U> {
     }
 
     pub fn eq(&self, other: &Rect<T, U>) -> bool
-        ensures { result ≡ eq_rects ops self.now other.now }
+        ensures { result ≡ eq_rects T.ops self.now other.now }
     {
         self.origin.eq(&other.origin) && self.size.eq(&other.size)
     }
@@ -49,7 +49,7 @@ impl<T: Scalar, U: Copy> Rect<T, U> {
 impl<T: Ordered, U: Tag> Rect<T, U> {
     // The smallest rectangle around the points.
     pub fn from_points(points: &[Point2D<T, U>]) -> Rect<T, U>
-        ensures { result ≡ box_rect T.Scalar.ops (box_of2 T.Ordered.less T.Scalar.ops.zero U.Tag.label points.now) }
+        ensures { result ≡ box_rect T.ops (box_of2 T.less T.ops.zero U.label points.now) }
     {
         Box2D::from_points(points).to_rect()
     }

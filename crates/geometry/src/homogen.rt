@@ -7,7 +7,7 @@ use scalar::{Ordered, Scalar, Tag};
 
 impl<T, U: Tag> HomogeneousVector<T, U> {
     pub fn new(x: T, y: T, z: T, w: T) -> HomogeneousVector<T, U>
-        ensures { result ≡ homogeneous x y z w label }
+        ensures { result ≡ homogeneous x y z w U.label }
     {
         HomogeneousVector {
             x,
@@ -21,7 +21,7 @@ impl<T, U: Tag> HomogeneousVector<T, U> {
 
 impl<T: Scalar, U: Copy> HomogeneousVector<T, U> {
     pub fn eq(&self, other: &HomogeneousVector<T, U>) -> bool
-        ensures { result ≡ eq_homogeneous ops self.now other.now }
+        ensures { result ≡ eq_homogeneous T.ops self.now other.now }
     {
         self.x.eq(other.x) && self.y.eq(other.y) && self.z.eq(other.z) && self.w.eq(other.w)
     }
@@ -30,7 +30,7 @@ impl<T: Scalar, U: Copy> HomogeneousVector<T, U> {
 impl<T: Ordered, U: Copy> HomogeneousVector<T, U> {
     // The point of the plane, or None unless w is above zero.
     pub fn to_point2d(self) -> Option<Point2D<T, U>>
-        ensures { result ≡ cartesian2 T.Scalar.ops less self }
+        ensures { result ≡ cartesian2 T.ops T.less self }
     {
         if T::zero().lt(self.w) {
             Some(Point2D {
@@ -45,7 +45,7 @@ impl<T: Ordered, U: Copy> HomogeneousVector<T, U> {
 
     // The point of space, or None unless w is above zero.
     pub fn to_point3d(self) -> Option<Point3D<T, U>>
-        ensures { result ≡ cartesian3 T.Scalar.ops less self }
+        ensures { result ≡ cartesian3 T.ops T.less self }
     {
         if T::zero().lt(self.w) {
             Some(Point3D {
@@ -61,7 +61,7 @@ impl<T: Ordered, U: Copy> HomogeneousVector<T, U> {
 }
 
 impl<T: Scalar, U: Copy + Drop> From<Vector2D<T, U>> for HomogeneousVector<T, U> {
-    ghost from_gives = { λ v r. r ≡ homogeneous v.x v.y T.Scalar.ops.zero T.Scalar.ops.zero v.unit };
+    ghost from_gives = { λ v r. r ≡ homogeneous v.x v.y T.ops.zero T.ops.zero v.unit };
 
     fn from(v: Vector2D<T, U>) -> HomogeneousVector<T, U> {
         HomogeneousVector {
@@ -75,7 +75,7 @@ impl<T: Scalar, U: Copy + Drop> From<Vector2D<T, U>> for HomogeneousVector<T, U>
 }
 
 impl<T: Scalar, U: Copy + Drop> From<Vector3D<T, U>> for HomogeneousVector<T, U> {
-    ghost from_gives = { λ v r. r ≡ homogeneous v.x v.y v.z T.Scalar.ops.zero v.unit };
+    ghost from_gives = { λ v r. r ≡ homogeneous v.x v.y v.z T.ops.zero v.unit };
 
     fn from(v: Vector3D<T, U>) -> HomogeneousVector<T, U> {
         HomogeneousVector {
@@ -89,7 +89,7 @@ impl<T: Scalar, U: Copy + Drop> From<Vector3D<T, U>> for HomogeneousVector<T, U>
 }
 
 impl<T: Scalar, U: Copy + Drop> From<Point2D<T, U>> for HomogeneousVector<T, U> {
-    ghost from_gives = { λ p r. r ≡ homogeneous p.x p.y T.Scalar.ops.zero T.Scalar.ops.one p.unit };
+    ghost from_gives = { λ p r. r ≡ homogeneous p.x p.y T.ops.zero T.ops.one p.unit };
 
     fn from(p: Point2D<T, U>) -> HomogeneousVector<T, U> {
         HomogeneousVector {
@@ -103,7 +103,7 @@ impl<T: Scalar, U: Copy + Drop> From<Point2D<T, U>> for HomogeneousVector<T, U> 
 }
 
 impl<T: Scalar, U: Copy + Drop> From<Point3D<T, U>> for HomogeneousVector<T, U> {
-    ghost from_gives = { λ p r. r ≡ homogeneous p.x p.y p.z T.Scalar.ops.one p.unit };
+    ghost from_gives = { λ p r. r ≡ homogeneous p.x p.y p.z T.ops.one p.unit };
 
     fn from(p: Point3D<T, U>) -> HomogeneousVector<T, U> {
         HomogeneousVector {

@@ -1,5 +1,7 @@
 // Points, vectors, sizes and homogeneous vectors, in modules named as euclid names them.
 // Each type is generic over its scalar and over the space that its coordinates are taken in, of which it holds the one value.
+#![tactic(auto)]
+
 pub mod homogen;
 pub mod point;
 pub mod size;

@@ -7,7 +7,7 @@ use scalar::{Scalar, Tag};
 
 impl<T, U: Tag> Point2D<T, U> {
     pub fn new(x: T, y: T) -> Point2D<T, U>
-        ensures { result ≡ point2_of x y label }
+        ensures { result ≡ point2_of x y U.label }
     {
         Point2D {
             x,
@@ -19,21 +19,21 @@ impl<T, U: Tag> Point2D<T, U> {
 
 // Shorthand for `Point2D::new`.
 pub fn point2<T, U: Tag>(x: T, y: T) -> Point2D<T, U>
-    ensures { result ≡ point2_of x y label }
+    ensures { result ≡ point2_of x y U.label }
 {
     Point2D::new(x, y)
 }
 
 impl<T: Scalar, U: Tag> Point2D<T, U> {
     pub fn origin() -> Point2D<T, U>
-        ensures { result ≡ point2_of T.Scalar.ops.zero T.Scalar.ops.zero U.Tag.label }
+        ensures { result ≡ point2_of T.ops.zero T.ops.zero U.label }
     {
         point2(T::zero(), T::zero())
     }
 
     // The same as `origin`.
     pub fn zero() -> Point2D<T, U>
-        ensures { result ≡ point2_of T.Scalar.ops.zero T.Scalar.ops.zero U.Tag.label }
+        ensures { result ≡ point2_of T.ops.zero T.ops.zero U.label }
     {
         Point2D::origin()
     }
@@ -50,7 +50,7 @@ impl<T: Copy, U: Copy> Point2D<T, U> {
 impl<T: Scalar, U: Copy> Point2D<T, U> {
     // The point moved by `size`.
     pub fn add(self, size: Size2D<T, U>) -> Point2D<T, U>
-        ensures { result ≡ point_add ops self size }
+        ensures { result ≡ point_add T.ops self size }
     {
         Point2D {
             x: self.x.add(size.width),
@@ -61,7 +61,7 @@ impl<T: Scalar, U: Copy> Point2D<T, U> {
 
     // The vector from `other` to this point.
     pub fn sub(self, other: Point2D<T, U>) -> Vector2D<T, U>
-        ensures { result ≡ point_sub ops self other }
+        ensures { result ≡ point_sub T.ops self other }
     {
         Vector2D {
             x: self.x.sub(other.x),
@@ -71,7 +71,7 @@ impl<T: Scalar, U: Copy> Point2D<T, U> {
     }
 
     pub fn eq(&self, other: &Point2D<T, U>) -> bool
-        ensures { result ≡ eq_points2 ops self.now other.now }
+        ensures { result ≡ eq_points2 T.ops self.now other.now }
     {
         self.x.eq(other.x) && self.y.eq(other.y)
     }
@@ -79,7 +79,7 @@ impl<T: Scalar, U: Copy> Point2D<T, U> {
 
 impl<T, U: Tag> Point3D<T, U> {
     pub fn new(x: T, y: T, z: T) -> Point3D<T, U>
-        ensures { result ≡ point3_of x y z label }
+        ensures { result ≡ point3_of x y z U.label }
     {
         Point3D {
             x,
@@ -92,21 +92,21 @@ impl<T, U: Tag> Point3D<T, U> {
 
 // Shorthand for `Point3D::new`.
 pub fn point3<T, U: Tag>(x: T, y: T, z: T) -> Point3D<T, U>
-    ensures { result ≡ point3_of x y z label }
+    ensures { result ≡ point3_of x y z U.label }
 {
     Point3D::new(x, y, z)
 }
 
 impl<T: Scalar, U: Tag> Point3D<T, U> {
     pub fn origin() -> Point3D<T, U>
-        ensures { result ≡ point3_of T.Scalar.ops.zero T.Scalar.ops.zero T.Scalar.ops.zero U.Tag.label }
+        ensures { result ≡ point3_of T.ops.zero T.ops.zero T.ops.zero U.label }
     {
         point3(T::zero(), T::zero(), T::zero())
     }
 
     // The same as `origin`.
     pub fn zero() -> Point3D<T, U>
-        ensures { result ≡ point3_of T.Scalar.ops.zero T.Scalar.ops.zero T.Scalar.ops.zero U.Tag.label }
+        ensures { result ≡ point3_of T.ops.zero T.ops.zero T.ops.zero U.label }
     {
         Point3D::origin()
     }
@@ -122,7 +122,7 @@ impl<T: Copy, U: Copy> Point3D<T, U> {
 
 impl<T: Scalar, U: Copy> Point3D<T, U> {
     pub fn eq(&self, other: &Point3D<T, U>) -> bool
-        ensures { result ≡ eq_points3 ops self.now other.now }
+        ensures { result ≡ eq_points3 T.ops self.now other.now }
     {
         self.x.eq(other.x) && self.y.eq(other.y) && self.z.eq(other.z)
     }

@@ -7,7 +7,7 @@ use scalar::{Scalar, Tag};
 
 impl<T, U: Tag> Size2D<T, U> {
     pub fn new(width: T, height: T) -> Size2D<T, U>
-        ensures { result ≡ size2_of width height label }
+        ensures { result ≡ size2_of width height U.label }
     {
         Size2D {
             width,
@@ -19,14 +19,14 @@ impl<T, U: Tag> Size2D<T, U> {
 
 // Shorthand for `Size2D::new`.
 pub fn size2<T, U: Tag>(w: T, h: T) -> Size2D<T, U>
-    ensures { result ≡ size2_of w h label }
+    ensures { result ≡ size2_of w h U.label }
 {
     Size2D::new(w, h)
 }
 
 impl<T: Scalar, U: Copy> Size2D<T, U> {
     pub fn eq(&self, other: &Size2D<T, U>) -> bool
-        ensures { result ≡ eq_sizes ops self.now other.now }
+        ensures { result ≡ eq_sizes T.ops self.now other.now }
     {
         self.width.eq(other.width) && self.height.eq(other.height)
     }

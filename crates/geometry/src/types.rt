@@ -1,13 +1,13 @@
 // The types, by their fields. A field `unit` holds the one value of a space.
 
+#[derive(Clone, Copy)]
 pub struct Point2D<T, U> {
     pub x: T,
     pub y: T,
     pub unit: U,
 }
 
-impl<T: Copy, U: Copy> Copy for Point2D<T, U> {}
-
+#[derive(Clone, Copy)]
 pub struct Point3D<T, U> {
     pub x: T,
     pub y: T,
@@ -15,16 +15,14 @@ pub struct Point3D<T, U> {
     pub unit: U,
 }
 
-impl<T: Copy, U: Copy> Copy for Point3D<T, U> {}
-
+#[derive(Clone, Copy)]
 pub struct Vector2D<T, U> {
     pub x: T,
     pub y: T,
     pub unit: U,
 }
 
-impl<T: Copy, U: Copy> Copy for Vector2D<T, U> {}
-
+#[derive(Clone, Copy)]
 pub struct Vector3D<T, U> {
     pub x: T,
     pub y: T,
@@ -32,17 +30,15 @@ pub struct Vector3D<T, U> {
     pub unit: U,
 }
 
-impl<T: Copy, U: Copy> Copy for Vector3D<T, U> {}
-
+#[derive(Clone, Copy)]
 pub struct Size2D<T, U> {
     pub width: T,
     pub height: T,
     pub unit: U,
 }
 
-impl<T: Copy, U: Copy> Copy for Size2D<T, U> {}
-
 // A point or a vector of the plane or of space by four coordinates, as a row.
+#[derive(Clone, Copy)]
 pub struct HomogeneousVector<T, U> {
     pub x: T,
     pub y: T,
@@ -50,5 +46,3 @@ pub struct HomogeneousVector<T, U> {
     pub w: T,
     pub unit: U,
 }
-
-impl<T: Copy, U: Copy> Copy for HomogeneousVector<T, U> {}

@@ -7,7 +7,7 @@ use scalar::{Scalar, Tag};
 
 impl<T, U: Tag> Vector2D<T, U> {
     pub fn new(x: T, y: T) -> Vector2D<T, U>
-        ensures { result ≡ vec2_of x y label }
+        ensures { result ≡ vec2_of x y U.label }
     {
         Vector2D {
             x,
@@ -19,7 +19,7 @@ impl<T, U: Tag> Vector2D<T, U> {
 
 // Shorthand for `Vector2D::new`.
 pub fn vec2<T, U: Tag>(x: T, y: T) -> Vector2D<T, U>
-    ensures { result ≡ vec2_of x y label }
+    ensures { result ≡ vec2_of x y U.label }
 {
     Vector2D::new(x, y)
 }
@@ -38,7 +38,7 @@ impl<T: Copy, U: Copy> Vector2D<T, U> {
 
 impl<T: Scalar, U: Copy> Vector2D<T, U> {
     pub fn eq(&self, other: &Vector2D<T, U>) -> bool
-        ensures { result ≡ eq_vectors2 ops self.now other.now }
+        ensures { result ≡ eq_vectors2 T.ops self.now other.now }
     {
         self.x.eq(other.x) && self.y.eq(other.y)
     }
@@ -46,7 +46,7 @@ impl<T: Scalar, U: Copy> Vector2D<T, U> {
 
 impl<T, U: Tag> Vector3D<T, U> {
     pub fn new(x: T, y: T, z: T) -> Vector3D<T, U>
-        ensures { result ≡ vec3_of x y z label }
+        ensures { result ≡ vec3_of x y z U.label }
     {
         Vector3D {
             x,
@@ -59,14 +59,14 @@ impl<T, U: Tag> Vector3D<T, U> {
 
 // Shorthand for `Vector3D::new`.
 pub fn vec3<T, U: Tag>(x: T, y: T, z: T) -> Vector3D<T, U>
-    ensures { result ≡ vec3_of x y z label }
+    ensures { result ≡ vec3_of x y z U.label }
 {
     Vector3D::new(x, y, z)
 }
 
 impl<T: Scalar, U: Copy> Vector3D<T, U> {
     pub fn eq(&self, other: &Vector3D<T, U>) -> bool
-        ensures { result ≡ eq_vectors3 ops self.now other.now }
+        ensures { result ≡ eq_vectors3 T.ops self.now other.now }
     {
         self.x.eq(other.x) && self.y.eq(other.y) && self.z.eq(other.z)
     }

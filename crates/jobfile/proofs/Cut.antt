@@ -1,5 +1,5 @@
 -- Enough bytes settle the answer.
-use Rattle.std.proofs.Common.{◌≡◌, ℕ, zero, suc, ◌+◌, ◌*◌, ◌<◌, ◌≤◌, ◌⊎◌, List, [], ◌∷◌, ◌++◌, length, get_or, drop, sym, refl, ap, ◌∙◌, subst, inl, inr, ⊎_elim, append_assoc, mul-le-mul_left, mul-suc, arith, length-append}
+use Rattle.std.proofs.Common.{◌≡◌, ℕ, suc, ◌+◌, ◌*◌, ◌<◌, ◌≤◌, List, [], ◌∷◌, ◌++◌, length, get_or, drop, sym, refl, ap, ◌∙◌, subst, append_assoc, mul-le-mul_left, mul-suc, arith, length-append}
 use Rattle.std.specs.List.{flat_map, AllByRecursion}
 use Rattle.std.proofs.lemmas.List.{get_or_append_left, drop_at}
 use Rattle.jobfile.specs.declared.faults.Fault.{Fault}
@@ -13,7 +13,7 @@ use Rattle.jobfile.specs.declared.parts.Form.TheVariants.{ScaleOffset, Flat, Sol
 use Rattle.jobfile.specs.declared.parts.Point.{Point}
 use Rattle.jobfile.specs.declared.parts.Frame.{Frame}
 use Rattle.jobfile.specs.Items.{two, Kind, Leads, OfReader, frame_bytes, den_at, OutOfRange, BadNumbers, BadCount, BadStep, BadFrame, Known, GoodForm, GoodStep, form_many, form_numbers, fraction_bytes, step_bytes, point_numbers, frame_numbers, steps, points, frames}
-use Rattle.jobfile.specs.Format.{section_bytes, GoodSection, BadSection, Lists, Good, Written, Fails, Enough, longest}
+use Rattle.jobfile.specs.Format.{section_bytes, GoodSection, BadSection, Fails, Enough, longest}
 use Rattle.jobfile.proofs.Runs.{run_length}
 
 leads_more : (front bs more : List ℕ) → Leads front bs → Leads front (bs ++ more)

@@ -1,7 +1,6 @@
 -- Bytes are cut into items in one way only.
-use Rattle.std.proofs.Common.{◌≡◌, ℕ, zero, suc, ◌+◌, ◌*◌, ◌/◌, ◌%◌, ◌^◌, ◌<◌, ◌≤◌, ◌⊎◌, List, [], ◌∷◌, ◌++◌, length, get_or, drop, ℤ, sym, refl, ap, ◌∙◌, subst, inl, inr, ⊎_elim, append_assoc, arith, length-append, w32, SFits, to_z, of_z}
+use Rattle.std.proofs.Common.{◌≡◌, ℕ, zero, suc, ◌+◌, ◌*◌, ◌/◌, ◌%◌, ◌<◌, List, [], ◌∷◌, ◌++◌, length, get_or, ℤ, sym, refl, ap, ◌∙◌, subst, ⊎_elim, append_assoc, arith, length-append, w32, SFits, to_z, of_z}
 use native.Mathlib.Nat.{div-div-eq-div-mul}
-use lib.Signed.{mag}
 use Rattle.std.specs.List.{flat_map, AllByRecursion}
 use Rattle.std.proofs.lemmas.List.{get_or-append-add}
 use Rattle.std.proofs.lemmas.Int.{to_z-of_z, ints}
@@ -10,7 +9,7 @@ use Rattle.jobfile.specs.declared.faults.Fault.TheVariants.{Reader as FromReader
 use Rattle.jobfile.specs.declared.faults.Fault.{Fault}
 use Rattle.jobfile.specs.declared.faults.ReaderFault.{ReaderFault}
 use Rattle.integers.specs.declared.fraction.Fraction.{Fraction}
-use Rattle.jobfile.specs.Items.{two, four, fraction_bytes, Sound, Numbers, BadNumbers, BadCount, OutOfRange, den_at, OfReader, Kind}
+use Rattle.jobfile.specs.Items.{fraction_bytes, Sound, Numbers, BadNumbers, OutOfRange, den_at, OfReader, Kind}
 
 pub two_same : (m n : ℕ) → m < 65536 → n < 65536 → m % 256 ≡ n % 256 → m / 256 % 256 ≡ n / 256 % 256 → m ≡ n
 two_same m n p q low high =

@@ -1,5 +1,5 @@
 -- The text that shows a job, line by line. Assumes nothing.
-use Rattle.std.specs.Prelude.{◌≡◌, ℕ, ◌+◌, ◌≤◌, List, [], ◌∷◌, ◌++◌, ℤ, string_bytes, string_len, string_capacity, codes, decimal}
+use Rattle.std.specs.Prelude.{◌≡◌, ℕ, ◌+◌, List, [], ◌∷◌, ◌++◌, ℤ, codes, decimal}
 use Rattle.std.specs.List.{flat_map}
 use Rattle.std.specs.Fmt.{signed_decimal}
 use Rattle.integers.specs.declared.fraction.Fraction.{Fraction}
@@ -25,7 +25,7 @@ abbrev pub numbers_text : (Fraction → ℤ) → List Fraction → List ℕ
 numbers_text value fs = flat_map (λ f. 32 ∷ signed_decimal (value f)) fs
 
 abbrev pub form_name : Form → List ℕ
-form_name (ScaleOffset fs) = codes "scale_offset"
+form_name (ScaleOffset fs) = codes "scale-offset"
 form_name (Flat fs) = codes "flat"
 form_name (Solid fs) = codes "solid"
 

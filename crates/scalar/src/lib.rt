@@ -1,6 +1,8 @@
 // What a number has to be able to do: its operations, and the laws that some numbers promise besides.
 // Every definition and law above this crate is over the one record `ops`, and never over a number's own type.
 // The laws of an interface are the promise of a function of its own, which runs no code.
+#![tactic(auto)]
+
 ghost use Rattle.std.specs.Prelude.{Bool, ◌≡◌};
 ghost use Rattle.scalar.specs.Laws.{RingLaws, FieldLaws, OrderLaws};
 ghost use Rattle.scalar.specs.Ops.{Ops};

@@ -1,5 +1,7 @@
 // The spaces of the shop, each a tag: the picture that the camera takes, the hide on the table, and the projector's beam.
 // What does not fit together by its spaces does not compile: the two functions below are the right uses of what is easily misused.
+#![tactic(auto)]
+
 ghost use Rattle.std.specs.Prelude.{◌≡◌};
 ghost use Rattle.transform2d.specs.Flats.{flat_then, flat_point};
 ghost use Rattle.std.proofs.Common.{rules};
@@ -52,7 +54,7 @@ pub fn camera_to_beam<T: Scalar>(
     camera_to_hide: &Transform2D<T, Camera, Hide>,
     hide_to_beam: &Transform2D<T, Hide, Beam>,
 ) -> Transform2D<T, Camera, Beam>
-    ensures { result ≡ flat_then ops camera_to_hide.now hide_to_beam.now }
+    ensures { result ≡ flat_then T.ops camera_to_hide.now hide_to_beam.now }
 {
     camera_to_hide.then(hide_to_beam)
 }
@@ -62,7 +64,7 @@ pub fn camera_on_hide<T: Scalar>(
     camera_to_hide: &Transform2D<T, Camera, Hide>,
     seen: Point2D<T, Camera>,
 ) -> Point2D<T, Hide>
-    ensures { result ≡ flat_point ops camera_to_hide.now seen }
+    ensures { result ≡ flat_point T.ops camera_to_hide.now seen }
 {
     camera_to_hide.transform_point(seen)
 }

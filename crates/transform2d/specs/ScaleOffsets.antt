@@ -37,7 +37,7 @@ module _ {S : Type 0} (o : Ops S) where
   abbrev pub usable : S → Bool
   usable s = eq s s && not (eq s 𝟘)
 
-  -- what undoes a scale_offset; none where a scale equals zero
+  -- what undoes a scale-offset; none where a scale equals zero
   abbrev pub scale_offset_inverse : {A B : Type 0} → ScaleOffset2D S A B → Option (ScaleOffset2D S B A)
   scale_offset_inverse m =
       let u = div 𝟙 m.sx in

@@ -10,7 +10,7 @@ use transform3d::types::Transform3D;
 
 impl<T: Scalar, Src: Copy, Dst: Copy> ScaleOffset2D<T, Src, Dst> {
     pub fn to_transform2d(&self) -> Transform2D<T, Src, Dst>
-        ensures { result ≡ flat_of ops self.now }
+        ensures { result ≡ flat_of T.ops self.now }
     {
         Transform2D {
             m11: self.sx,
@@ -25,7 +25,7 @@ impl<T: Scalar, Src: Copy, Dst: Copy> ScaleOffset2D<T, Src, Dst> {
     }
 
     pub fn to_transform3d(&self) -> Transform3D<T, Src, Dst>
-        ensures { result ≡ solid_of_scale_offset ops self.now }
+        ensures { result ≡ solid_of_scale_offset T.ops self.now }
     {
         let (zero, one) = (T::zero(), T::one());
         Transform3D {
@@ -53,7 +53,7 @@ impl<T: Scalar, Src: Copy, Dst: Copy> ScaleOffset2D<T, Src, Dst> {
 
 impl<T: Scalar, Src: Copy, Dst: Copy> From<ScaleOffset2D<T, Src, Dst>>
     for Transform2D<T, Src, Dst> {
-    ghost from_gives = { λ m r. r ≡ flat_of T.Scalar.ops m };
+    ghost from_gives = { λ m r. r ≡ flat_of T.ops m };
 
     fn from(m: ScaleOffset2D<T, Src, Dst>) -> Transform2D<T, Src, Dst> {
         m.to_transform2d()
@@ -61,7 +61,7 @@ impl<T: Scalar, Src: Copy, Dst: Copy> From<ScaleOffset2D<T, Src, Dst>>
 }
 
 impl<T: Scalar, Src: Copy, Dst: Copy> From<Transform2D<T, Src, Dst>> for Transform3D<T, Src, Dst> {
-    ghost from_gives = { λ m r. r ≡ solid_of T.Scalar.ops m };
+    ghost from_gives = { λ m r. r ≡ solid_of T.ops m };
 
     fn from(m: Transform2D<T, Src, Dst>) -> Transform3D<T, Src, Dst> {
         m.to_3d()

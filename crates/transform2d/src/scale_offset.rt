@@ -11,7 +11,7 @@ use scalar::{Ordered, Scalar, Tag};
 
 impl<T, Src: Tag, Dst: Tag> ScaleOffset2D<T, Src, Dst> {
     pub fn new(sx: T, sy: T, tx: T, ty: T) -> ScaleOffset2D<T, Src, Dst>
-        ensures { result ≡ scale_offset sx sy tx ty Src.Tag.label Dst.Tag.label }
+        ensures { result ≡ scale_offset sx sy tx ty Src.label Dst.label }
     {
         ScaleOffset2D {
             sx,
@@ -26,19 +26,19 @@ impl<T, Src: Tag, Dst: Tag> ScaleOffset2D<T, Src, Dst> {
 
 impl<T: Scalar, Src: Tag, Dst: Tag> ScaleOffset2D<T, Src, Dst> {
     pub fn identity() -> ScaleOffset2D<T, Src, Dst>
-        ensures { result ≡ scale_offset T.Scalar.ops.one T.Scalar.ops.one T.Scalar.ops.zero T.Scalar.ops.zero Src.Tag.label Dst.Tag.label }
+        ensures { result ≡ scale_offset T.ops.one T.ops.one T.ops.zero T.ops.zero Src.label Dst.label }
     {
         ScaleOffset2D::new(T::one(), T::one(), T::zero(), T::zero())
     }
 
     pub fn scale(sx: T, sy: T) -> ScaleOffset2D<T, Src, Dst>
-        ensures { result ≡ scale_offset sx sy T.Scalar.ops.zero T.Scalar.ops.zero Src.Tag.label Dst.Tag.label }
+        ensures { result ≡ scale_offset sx sy T.ops.zero T.ops.zero Src.label Dst.label }
     {
         ScaleOffset2D::new(sx, sy, T::zero(), T::zero())
     }
 
     pub fn offset(tx: T, ty: T) -> ScaleOffset2D<T, Src, Dst>
-        ensures { result ≡ scale_offset T.Scalar.ops.one T.Scalar.ops.one tx ty Src.Tag.label Dst.Tag.label }
+        ensures { result ≡ scale_offset T.ops.one T.ops.one tx ty Src.label Dst.label }
     {
         ScaleOffset2D::new(T::one(), T::one(), tx, ty)
     }
@@ -46,7 +46,7 @@ impl<T: Scalar, Src: Tag, Dst: Tag> ScaleOffset2D<T, Src, Dst> {
 
 impl<T: Scalar, Src: Copy, Dst: Copy> ScaleOffset2D<T, Src, Dst> {
     pub fn transform_point(&self, p: Point2D<T, Src>) -> Point2D<T, Dst>
-        ensures { result ≡ scale_offset_point ops self.now p }
+        ensures { result ≡ scale_offset_point T.ops self.now p }
     {
         Point2D {
             x: p.x.mul(self.sx).add(self.tx),
@@ -56,7 +56,7 @@ impl<T: Scalar, Src: Copy, Dst: Copy> ScaleOffset2D<T, Src, Dst> {
     }
 
     pub fn transform_vector(&self, v: Vector2D<T, Src>) -> Vector2D<T, Dst>
-        ensures { result ≡ scale_offset_vector ops self.now v }
+        ensures { result ≡ scale_offset_vector T.ops self.now v }
     {
         Vector2D {
             x: v.x.mul(self.sx),
@@ -70,7 +70,7 @@ impl<T: Scalar, Src: Copy, Dst: Copy> ScaleOffset2D<T, Src, Dst> {
         &self,
         other: &ScaleOffset2D<T, Dst, NewDst>,
     ) -> ScaleOffset2D<T, Src, NewDst>
-        ensures { result ≡ scale_offset_then ops self.now other.now }
+        ensures { result ≡ scale_offset_then T.ops self.now other.now }
     {
         ScaleOffset2D {
             sx: self.sx.mul(other.sx),
@@ -84,7 +84,7 @@ impl<T: Scalar, Src: Copy, Dst: Copy> ScaleOffset2D<T, Src, Dst> {
 
     // A translation by `v`, and this transform after it.
     pub fn pre_translate(&self, v: Vector2D<T, Src>) -> ScaleOffset2D<T, Src, Dst>
-        ensures { result ≡ (let m = self.now in scale_offset m.sx m.sy (ops.add m.tx (ops.mul v.x m.sx)) (ops.add m.ty (ops.mul v.y m.sy)) m.src m.dst) }
+        ensures { result ≡ (let m = self.now in scale_offset m.sx m.sy (T.ops.add m.tx (T.ops.mul v.x m.sx)) (T.ops.add m.ty (T.ops.mul v.y m.sy)) m.src m.dst) }
     {
         ScaleOffset2D {
             sx: self.sx,
@@ -98,7 +98,7 @@ impl<T: Scalar, Src: Copy, Dst: Copy> ScaleOffset2D<T, Src, Dst> {
 
     // This transform, and a translation by `v` after it.
     pub fn then_translate(&self, v: Vector2D<T, Dst>) -> ScaleOffset2D<T, Src, Dst>
-        ensures { result ≡ (let m = self.now in scale_offset m.sx m.sy (ops.add m.tx v.x) (ops.add m.ty v.y) m.src m.dst) }
+        ensures { result ≡ (let m = self.now in scale_offset m.sx m.sy (T.ops.add m.tx v.x) (T.ops.add m.ty v.y) m.src m.dst) }
     {
         ScaleOffset2D {
             sx: self.sx,
@@ -112,7 +112,7 @@ impl<T: Scalar, Src: Copy, Dst: Copy> ScaleOffset2D<T, Src, Dst> {
 
     // A scale, and this transform after it.
     pub fn pre_scale(&self, sx: T, sy: T) -> ScaleOffset2D<T, Src, Dst>
-        ensures { result ≡ (let m = self.now in scale_offset (ops.mul m.sx sx) (ops.mul m.sy sy) m.tx m.ty m.src m.dst) }
+        ensures { result ≡ (let m = self.now in scale_offset (T.ops.mul m.sx sx) (T.ops.mul m.sy sy) m.tx m.ty m.src m.dst) }
     {
         ScaleOffset2D {
             sx: self.sx.mul(sx),
@@ -126,7 +126,7 @@ impl<T: Scalar, Src: Copy, Dst: Copy> ScaleOffset2D<T, Src, Dst> {
 
     // This transform, and a scale after it.
     pub fn then_scale(&self, sx: T, sy: T) -> ScaleOffset2D<T, Src, Dst>
-        ensures { result ≡ (let m = self.now in scale_offset (ops.mul m.sx sx) (ops.mul m.sy sy) (ops.mul m.tx sx) (ops.mul m.ty sy) m.src m.dst) }
+        ensures { result ≡ (let m = self.now in scale_offset (T.ops.mul m.sx sx) (T.ops.mul m.sy sy) (T.ops.mul m.tx sx) (T.ops.mul m.ty sy) m.src m.dst) }
     {
         ScaleOffset2D {
             sx: self.sx.mul(sx),
@@ -140,7 +140,7 @@ impl<T: Scalar, Src: Copy, Dst: Copy> ScaleOffset2D<T, Src, Dst> {
 
     // Whether both scales can be divided by: neither is zero, or unequal to itself.
     pub fn is_invertible(&self) -> bool
-        ensures { result ≡ (usable ops self.now.sx && usable ops self.now.sy) }
+        ensures { result ≡ (usable T.ops self.now.sx && usable T.ops self.now.sy) }
     {
         self.sx.eq(self.sx)
             && !self.sx.eq(T::zero())
@@ -149,7 +149,7 @@ impl<T: Scalar, Src: Copy, Dst: Copy> ScaleOffset2D<T, Src, Dst> {
 
     // The transform back, or None where a scale equals zero.
     pub fn inverse(&self) -> Option<ScaleOffset2D<T, Dst, Src>>
-        ensures { result ≡ scale_offset_inverse ops self.now }
+        ensures { result ≡ scale_offset_inverse T.ops self.now }
     {
         if self.sx.eq(T::zero()) || self.sy.eq(T::zero()) {
             return None;
@@ -167,7 +167,7 @@ impl<T: Scalar, Src: Copy, Dst: Copy> ScaleOffset2D<T, Src, Dst> {
     }
 
     pub fn eq(&self, other: &ScaleOffset2D<T, Src, Dst>) -> bool
-        ensures { result ≡ scale_offset_eq ops self.now other.now }
+        ensures { result ≡ scale_offset_eq T.ops self.now other.now }
     {
         self.sx.eq(other.sx) && self.sy.eq(other.sy) && self.tx.eq(other.tx) && self.ty.eq(other.ty)
     }
@@ -175,7 +175,7 @@ impl<T: Scalar, Src: Copy, Dst: Copy> ScaleOffset2D<T, Src, Dst> {
 
 impl<T: Ordered, Src: Copy, Dst: Copy> ScaleOffset2D<T, Src, Dst> {
     pub fn transform_box(&self, b: &Box2D<T, Src>) -> Box2D<T, Dst>
-        ensures { result ≡ scale_offset_box T.Scalar.ops less self.now b.now }
+        ensures { result ≡ scale_offset_box T.ops T.less self.now b.now }
     {
         let mut min = self.transform_point(b.min);
         let mut max = self.transform_point(b.max);
@@ -189,7 +189,7 @@ impl<T: Ordered, Src: Copy, Dst: Copy> ScaleOffset2D<T, Src, Dst> {
     }
 
     pub fn transform_rect(&self, r: &Rect<T, Src>) -> Rect<T, Dst>
-        ensures { result ≡ box_rect T.Scalar.ops (scale_offset_box T.Scalar.ops less self.now (rect_box T.Scalar.ops r.now)) }
+        ensures { result ≡ box_rect T.ops (scale_offset_box T.ops T.less self.now (rect_box T.ops r.now)) }
     {
         self.transform_box(&r.to_box2d()).to_rect()
     }
@@ -211,13 +211,13 @@ impl<T: Copy, Src: Copy, Dst: Copy> ScaleOffset2D<T, Src, Dst> {
     }
 
     pub fn with_source<NewSrc: Tag>(&self) -> ScaleOffset2D<T, NewSrc, Dst>
-        ensures { result ≡ (let m = self.now in scale_offset m.sx m.sy m.tx m.ty label m.dst) }
+        ensures { result ≡ (let m = self.now in scale_offset m.sx m.sy m.tx m.ty NewSrc.label m.dst) }
     {
         self.between(NewSrc::tag(), self.dst)
     }
 
     pub fn with_destination<NewDst: Tag>(&self) -> ScaleOffset2D<T, Src, NewDst>
-        ensures { result ≡ (let m = self.now in scale_offset m.sx m.sy m.tx m.ty m.src label) }
+        ensures { result ≡ (let m = self.now in scale_offset m.sx m.sy m.tx m.ty m.src NewDst.label) }
     {
         self.between(self.src, NewDst::tag())
     }
@@ -231,7 +231,7 @@ impl<T: Copy, Src: Copy, Dst: Copy> ScaleOffset2D<T, Src, Dst> {
 
 impl<T: Copy, Src: Tag, Dst: Tag> ScaleOffset2D<T, Src, Dst> {
     pub fn from_untyped(m: ScaleOffset2D<T, UnknownUnit, UnknownUnit>) -> ScaleOffset2D<T, Src, Dst>
-        ensures { result ≡ scale_offset m.sx m.sy m.tx m.ty Src.Tag.label Dst.Tag.label }
+        ensures { result ≡ scale_offset m.sx m.sy m.tx m.ty Src.label Dst.label }
     {
         m.between(Src::tag(), Dst::tag())
     }

@@ -14,7 +14,7 @@ use transform3d::types::Transform3D;
 
 impl<T, Src: Tag, Dst: Tag> Transform2D<T, Src, Dst> {
     pub fn new(m11: T, m12: T, m21: T, m22: T, m31: T, m32: T) -> Transform2D<T, Src, Dst>
-        ensures { result ≡ flat m11 m12 m21 m22 m31 m32 Src.Tag.label Dst.Tag.label }
+        ensures { result ≡ flat m11 m12 m21 m22 m31 m32 Src.label Dst.label }
     {
         Transform2D {
             m11,
@@ -31,13 +31,13 @@ impl<T, Src: Tag, Dst: Tag> Transform2D<T, Src, Dst> {
 
 impl<T: Scalar, Src: Tag, Dst: Tag> Transform2D<T, Src, Dst> {
     pub fn identity() -> Transform2D<T, Src, Dst>
-        ensures { result ≡ flat_identity T.Scalar.ops Src.Tag.label Dst.Tag.label }
+        ensures { result ≡ flat_identity T.ops Src.label Dst.label }
     {
         Transform2D::translation(T::zero(), T::zero())
     }
 
     pub fn translation(x: T, y: T) -> Transform2D<T, Src, Dst>
-        ensures { result ≡ flat_translation T.Scalar.ops x y Src.Tag.label Dst.Tag.label }
+        ensures { result ≡ flat_translation T.ops x y Src.label Dst.label }
     {
         Transform2D {
             m11: T::one(),
@@ -52,7 +52,7 @@ impl<T: Scalar, Src: Tag, Dst: Tag> Transform2D<T, Src, Dst> {
     }
 
     pub fn scale(x: T, y: T) -> Transform2D<T, Src, Dst>
-        ensures { result ≡ flat_scale T.Scalar.ops x y Src.Tag.label Dst.Tag.label }
+        ensures { result ≡ flat_scale T.ops x y Src.label Dst.label }
     {
         Transform2D {
             m11: x,
@@ -70,14 +70,14 @@ impl<T: Scalar, Src: Tag, Dst: Tag> Transform2D<T, Src, Dst> {
 impl<T: Scalar, Src: Copy, Dst: Tag> Transform2D<T, Src, Dst> {
     // This transform, and a translation by `v` after it.
     pub fn then_translate(&self, v: Vector2D<T, Dst>) -> Transform2D<T, Src, Dst>
-        ensures { result ≡ flat_then T.Scalar.ops self.now (flat_translation T.Scalar.ops v.x v.y Dst.Tag.label Dst.Tag.label) }
+        ensures { result ≡ flat_then T.ops self.now (flat_translation T.ops v.x v.y Dst.label Dst.label) }
     {
         self.then(&Transform2D::<T, Dst, Dst>::translation(v.x, v.y))
     }
 
     // This transform, and a scale after it.
     pub fn then_scale(&self, x: T, y: T) -> Transform2D<T, Src, Dst>
-        ensures { result ≡ flat_then T.Scalar.ops self.now (flat_scale T.Scalar.ops x y Dst.Tag.label Dst.Tag.label) }
+        ensures { result ≡ flat_then T.ops self.now (flat_scale T.ops x y Dst.label Dst.label) }
     {
         self.then(&Transform2D::<T, Dst, Dst>::scale(x, y))
     }
@@ -86,7 +86,7 @@ impl<T: Scalar, Src: Copy, Dst: Tag> Transform2D<T, Src, Dst> {
 impl<T: Scalar, Src: Tag, Dst: Copy> Transform2D<T, Src, Dst> {
     // A translation by `v`, and this transform after it.
     pub fn pre_translate(&self, v: Vector2D<T, Src>) -> Transform2D<T, Src, Dst>
-        ensures { result ≡ flat_then T.Scalar.ops (flat_translation T.Scalar.ops v.x v.y Src.Tag.label Src.Tag.label) self.now }
+        ensures { result ≡ flat_then T.ops (flat_translation T.ops v.x v.y Src.label Src.label) self.now }
     {
         Transform2D::<T, Src, Src>::translation(v.x, v.y).then(self)
     }
@@ -98,7 +98,7 @@ impl<T: Scalar, Src: Copy, Dst: Copy> Transform2D<T, Src, Dst> {
         &self,
         mat: &Transform2D<T, Dst, NewDst>,
     ) -> Transform2D<T, Src, NewDst>
-        ensures { result ≡ flat_then ops self.now mat.now }
+        ensures { result ≡ flat_then T.ops self.now mat.now }
     {
         Transform2D {
             m11: dot2(self.m11, mat.m11, self.m12, mat.m21),
@@ -114,7 +114,7 @@ impl<T: Scalar, Src: Copy, Dst: Copy> Transform2D<T, Src, Dst> {
 
     // The same transform, of space.
     pub fn to_3d(&self) -> Transform3D<T, Src, Dst>
-        ensures { result ≡ solid_of T.Scalar.ops self.now }
+        ensures { result ≡ solid_of T.ops self.now }
     {
         Transform3D {
             m11: self.m11,
@@ -140,7 +140,7 @@ impl<T: Scalar, Src: Copy, Dst: Copy> Transform2D<T, Src, Dst> {
 
     // A scale, and this transform after it.
     pub fn pre_scale(&self, x: T, y: T) -> Transform2D<T, Src, Dst>
-        ensures { result ≡ flat_pre_scale ops self.now x y }
+        ensures { result ≡ flat_pre_scale T.ops self.now x y }
     {
         Transform2D {
             m11: self.m11.mul(x),
@@ -155,7 +155,7 @@ impl<T: Scalar, Src: Copy, Dst: Copy> Transform2D<T, Src, Dst> {
     }
 
     pub fn eq(&self, other: &Transform2D<T, Src, Dst>) -> bool
-        ensures { result ≡ flat_eq ops self.now other.now }
+        ensures { result ≡ flat_eq T.ops self.now other.now }
     {
         self.m11.eq(other.m11)
             && self.m12.eq(other.m12)
@@ -166,20 +166,20 @@ impl<T: Scalar, Src: Copy, Dst: Copy> Transform2D<T, Src, Dst> {
     }
 
     pub fn determinant(&self) -> T
-        ensures { result ≡ flat_det ops self.now }
+        ensures { result ≡ flat_det T.ops self.now }
     {
         cross(self.m11, self.m22, self.m12, self.m21)
     }
 
     pub fn is_invertible(&self) -> bool
-        ensures { result ≡ not (ops.eq (flat_det ops self.now) ops.zero) }
+        ensures { result ≡ not (T.ops.eq (flat_det T.ops self.now) T.ops.zero) }
     {
         !self.determinant().eq(T::zero())
     }
 
     // The transform back, or None where the determinant equals zero.
     pub fn inverse(&self) -> Option<Transform2D<T, Dst, Src>>
-        ensures { result ≡ flat_inverse ops self.now }
+        ensures { result ≡ flat_inverse T.ops self.now }
     {
         let det = self.determinant();
         let zero = T::zero();
@@ -200,7 +200,7 @@ impl<T: Scalar, Src: Copy, Dst: Copy> Transform2D<T, Src, Dst> {
     }
 
     pub fn transform_point(&self, p: Point2D<T, Src>) -> Point2D<T, Dst>
-        ensures { result ≡ flat_point ops self.now p }
+        ensures { result ≡ flat_point T.ops self.now p }
     {
         Point2D {
             x: affine2(p.x, self.m11, p.y, self.m21, self.m31),
@@ -210,7 +210,7 @@ impl<T: Scalar, Src: Copy, Dst: Copy> Transform2D<T, Src, Dst> {
     }
 
     pub fn transform_vector(&self, v: Vector2D<T, Src>) -> Vector2D<T, Dst>
-        ensures { result ≡ flat_vector ops self.now v }
+        ensures { result ≡ flat_vector T.ops self.now v }
     {
         Vector2D {
             x: dot2(v.x, self.m11, v.y, self.m21),
@@ -223,14 +223,14 @@ impl<T: Scalar, Src: Copy, Dst: Copy> Transform2D<T, Src, Dst> {
 impl<T: Ordered, Src: Copy, Dst: Copy> Transform2D<T, Src, Dst> {
     // Whether, up to `epsilon`, this scales and moves and does nothing else.
     pub fn is_scale_offset_eps(&self, epsilon: T) -> bool
-        ensures { result ≡ (less (absolute self.now.m12) epsilon && less (absolute self.now.m21) epsilon) }
+        ensures { result ≡ (T.less (T.absolute self.now.m12) epsilon && T.less (T.absolute self.now.m21) epsilon) }
     {
         self.m12.abs().lt(epsilon) && self.m21.abs().lt(epsilon)
     }
 
     // The box of the images of the four corners.
     pub fn outer_transformed_box(&self, b: &Box2D<T, Src>) -> Box2D<T, Dst>
-        ensures { result ≡ flat_box T.Scalar.ops less self.now b.now }
+        ensures { result ≡ flat_box T.ops T.less self.now b.now }
     {
         let unit = b.min.unit;
         let first = self.transform_point(b.min);
@@ -251,7 +251,7 @@ impl<T: Ordered, Src: Copy, Dst: Copy> Transform2D<T, Src, Dst> {
 
     // The rectangle of the images of the four corners.
     pub fn outer_transformed_rect(&self, rect: &Rect<T, Src>) -> Rect<T, Dst>
-        ensures { result ≡ box_rect T.Scalar.ops (flat_box T.Scalar.ops less self.now (rect_box T.Scalar.ops rect.now)) }
+        ensures { result ≡ box_rect T.ops (flat_box T.ops T.less self.now (rect_box T.ops rect.now)) }
     {
         self.outer_transformed_box(&rect.to_box2d()).to_rect()
     }
@@ -289,13 +289,13 @@ impl<T: Copy, Src: Copy, Dst: Copy> Transform2D<T, Src, Dst> {
     }
 
     pub fn with_source<NewSrc: Tag>(&self) -> Transform2D<T, NewSrc, Dst>
-        ensures { result ≡ re_tagged self.now label self.now.dst }
+        ensures { result ≡ re_tagged self.now NewSrc.label self.now.dst }
     {
         self.between(NewSrc::tag(), self.dst)
     }
 
     pub fn with_destination<NewDst: Tag>(&self) -> Transform2D<T, Src, NewDst>
-        ensures { result ≡ re_tagged self.now self.now.src label }
+        ensures { result ≡ re_tagged self.now self.now.src NewDst.label }
     {
         self.between(self.src, NewDst::tag())
     }
@@ -309,7 +309,7 @@ impl<T: Copy, Src: Copy, Dst: Copy> Transform2D<T, Src, Dst> {
 
 impl<T: Copy, Src: Tag, Dst: Tag> Transform2D<T, Src, Dst> {
     pub fn from_untyped(p: &Transform2D<T, UnknownUnit, UnknownUnit>) -> Transform2D<T, Src, Dst>
-        ensures { result ≡ re_tagged p.now Src.Tag.label Dst.Tag.label }
+        ensures { result ≡ re_tagged p.now Src.label Dst.label }
     {
         p.between(Src::tag(), Dst::tag())
     }

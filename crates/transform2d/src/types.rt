@@ -1,6 +1,7 @@
 // The transforms of the plane, by their fields. `src` and `dst` hold the one value of the space that is left and of the one that is reached.
 
 // A scale of each axis, then an offset.
+#[derive(Clone, Copy)]
 pub struct ScaleOffset2D<T, Src, Dst> {
     pub sx: T,
     pub sy: T,
@@ -10,9 +11,8 @@ pub struct ScaleOffset2D<T, Src, Dst> {
     pub dst: Dst,
 }
 
-impl<T: Copy, Src: Copy, Dst: Copy> Copy for ScaleOffset2D<T, Src, Dst> {}
-
 // An affine transform: a row (x, y, 1) times the three rows of this matrix.
+#[derive(Clone, Copy)]
 pub struct Transform2D<T, Src, Dst> {
     pub m11: T,
     pub m12: T,
@@ -23,5 +23,3 @@ pub struct Transform2D<T, Src, Dst> {
     pub src: Src,
     pub dst: Dst,
 }
-
-impl<T: Copy, Src: Copy, Dst: Copy> Copy for Transform2D<T, Src, Dst> {}

@@ -11,7 +11,7 @@ use sums::{affine2, affine3, dot2, dot3};
 
 impl<T: Scalar, Src: Copy, Dst: Copy> Transform3D<T, Src, Dst> {
     pub fn transform_point2d_homogeneous(&self, p: Point2D<T, Src>) -> HomogeneousVector<T, Dst>
-        ensures { result ≡ image_point2 ops self.now p }
+        ensures { result ≡ image_point2 T.ops self.now p }
     {
         HomogeneousVector {
             x: affine2(p.x, self.m11, p.y, self.m21, self.m41),
@@ -23,7 +23,7 @@ impl<T: Scalar, Src: Copy, Dst: Copy> Transform3D<T, Src, Dst> {
     }
 
     pub fn transform_point3d_homogeneous(&self, p: Point3D<T, Src>) -> HomogeneousVector<T, Dst>
-        ensures { result ≡ image_point3 ops self.now p }
+        ensures { result ≡ image_point3 T.ops self.now p }
     {
         HomogeneousVector {
             x: affine3(p.x, self.m11, p.y, self.m21, p.z, self.m31, self.m41),
@@ -35,7 +35,7 @@ impl<T: Scalar, Src: Copy, Dst: Copy> Transform3D<T, Src, Dst> {
     }
 
     pub fn transform_vector2d(&self, v: Vector2D<T, Src>) -> Vector2D<T, Dst>
-        ensures { result ≡ image_vector2 ops self.now v }
+        ensures { result ≡ image_vector2 T.ops self.now v }
     {
         Vector2D {
             x: dot2(v.x, self.m11, v.y, self.m21),
@@ -45,7 +45,7 @@ impl<T: Scalar, Src: Copy, Dst: Copy> Transform3D<T, Src, Dst> {
     }
 
     pub fn transform_vector3d(&self, v: Vector3D<T, Src>) -> Vector3D<T, Dst>
-        ensures { result ≡ image_vector3 ops self.now v }
+        ensures { result ≡ image_vector3 T.ops self.now v }
     {
         Vector3D {
             x: dot3(v.x, self.m11, v.y, self.m21, v.z, self.m31),
@@ -59,14 +59,14 @@ impl<T: Scalar, Src: Copy, Dst: Copy> Transform3D<T, Src, Dst> {
 impl<T: Ordered, Src: Copy, Dst: Copy> Transform3D<T, Src, Dst> {
     // The image of a point of the plane, or None unless its w is above zero.
     pub fn transform_point2d(&self, p: Point2D<T, Src>) -> Option<Point2D<T, Dst>>
-        ensures { result ≡ cartesian2 T.Scalar.ops less (image_point2 T.Scalar.ops self.now p) }
+        ensures { result ≡ cartesian2 T.ops T.less (image_point2 T.ops self.now p) }
     {
         self.transform_point2d_homogeneous(p).to_point2d()
     }
 
     // The image of a point of space, or None unless its w is above zero.
     pub fn transform_point3d(&self, p: Point3D<T, Src>) -> Option<Point3D<T, Dst>>
-        ensures { result ≡ cartesian3 T.Scalar.ops less (image_point3 T.Scalar.ops self.now p) }
+        ensures { result ≡ cartesian3 T.ops T.less (image_point3 T.ops self.now p) }
     {
         self.transform_point3d_homogeneous(p).to_point3d()
     }
@@ -75,7 +75,7 @@ impl<T: Ordered, Src: Copy, Dst: Copy> Transform3D<T, Src, Dst> {
 impl<T: Ordered, Src: Copy, Dst: Copy> Transform3D<T, Src, Dst> {
     // The box of the images of the four corners, or None unless the w of each is above zero.
     pub fn outer_transformed_box2d(&self, b: &Box2D<T, Src>) -> Option<Box2D<T, Dst>>
-        ensures { result ≡ outer_box2 T.Scalar.ops less self.now b.now }
+        ensures { result ≡ outer_box2 T.ops T.less self.now b.now }
     {
         let unit = b.min.unit;
         let first = self.transform_point2d(b.min)?;
@@ -96,14 +96,14 @@ impl<T: Ordered, Src: Copy, Dst: Copy> Transform3D<T, Src, Dst> {
 
     // The rectangle of the images of the four corners, or None unless the w of each is above zero.
     pub fn outer_transformed_rect(&self, rect: &Rect<T, Src>) -> Option<Rect<T, Dst>>
-        ensures { result ≡ outer_rect T.Scalar.ops less self.now rect.now }
+        ensures { result ≡ outer_rect T.ops T.less self.now rect.now }
     {
         Some(self.outer_transformed_box2d(&rect.to_box2d())?.to_rect())
     }
 
     // `outer` with the image of `p` taken in, or None unless the w of the image is above zero.
     fn take_in(&self, outer: Box3D<T, Dst>, p: Point3D<T, Src>) -> Option<Box3D<T, Dst>>
-        ensures { result ≡ taken_in T.Scalar.ops less self.now outer p }
+        ensures { result ≡ taken_in T.ops T.less self.now outer p }
     {
         let mut grown = outer;
         grown.grow(self.transform_point3d(p)?);
@@ -118,7 +118,7 @@ impl<T: Ordered, Src: Copy, Dst: Copy> Transform3D<T, Src, Dst> {
         y: T,
         b: &Box3D<T, Src>,
     ) -> Option<Box3D<T, Dst>>
-        ensures { result ≡ edge_taken_in T.Scalar.ops less self.now outer x y b.now }
+        ensures { result ≡ edge_taken_in T.ops T.less self.now outer x y b.now }
     {
         let unit = b.min.unit;
         let half = self.take_in(
@@ -143,7 +143,7 @@ impl<T: Ordered, Src: Copy, Dst: Copy> Transform3D<T, Src, Dst> {
 
     // The box of the images of the eight corners, or None unless the w of each is above zero.
     pub fn outer_transformed_box3d(&self, b: &Box3D<T, Src>) -> Option<Box3D<T, Dst>>
-        ensures { result ≡ outer_box3 T.Scalar.ops less self.now b.now }
+        ensures { result ≡ outer_box3 T.ops T.less self.now b.now }
     {
         let first = self.transform_point3d(b.min)?;
         let outer = self.take_in(

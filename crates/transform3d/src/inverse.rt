@@ -8,7 +8,7 @@ use sums::{add4, even, less4, odd, prod4};
 
 impl<T: Scalar, Src: Copy, Dst: Copy> Transform3D<T, Src, Dst> {
     pub fn determinant(&self) -> T
-        ensures { result ≡ solid_det ops self.now }
+        ensures { result ≡ solid_det T.ops self.now }
     {
         let Transform3D {
             m11,
@@ -57,7 +57,7 @@ impl<T: Scalar, Src: Copy, Dst: Copy> Transform3D<T, Src, Dst> {
 
     // At each place the determinant without that column and that row, with the sign of the place.
     fn adjugate(&self) -> Transform3D<T, Dst, Src>
-        ensures { result ≡ solid_adjugate ops self.now }
+        ensures { result ≡ solid_adjugate T.ops self.now }
     {
         let Transform3D {
             m11,
@@ -102,14 +102,14 @@ impl<T: Scalar, Src: Copy, Dst: Copy> Transform3D<T, Src, Dst> {
     }
 
     pub fn is_invertible(&self) -> bool
-        ensures { result ≡ not (ops.eq (solid_det ops self.now) ops.zero) }
+        ensures { result ≡ not (T.ops.eq (solid_det T.ops self.now) T.ops.zero) }
     {
         !self.determinant().eq(T::zero())
     }
 
     // The transform back, or None where the determinant equals zero.
     pub fn inverse(&self) -> Option<Transform3D<T, Dst, Src>>
-        ensures { result ≡ solid_inverse ops self.now }
+        ensures { result ≡ solid_inverse T.ops self.now }
     {
         let det = self.determinant();
         if det.eq(T::zero()) {
@@ -122,7 +122,7 @@ impl<T: Scalar, Src: Copy, Dst: Copy> Transform3D<T, Src, Dst> {
 impl<T: Ordered, Src: Copy, Dst: Copy> Transform3D<T, Src, Dst> {
     // Whether the plane z = 0 shows its back.
     pub fn is_backface_visible(&self) -> bool
-        ensures { result ≡ less (T.Scalar.ops.mul (solid_adjugate T.Scalar.ops self.now).m33 (solid_det T.Scalar.ops self.now)) T.Scalar.ops.zero }
+        ensures { result ≡ T.less (T.ops.mul (solid_adjugate T.ops self.now).m33 (solid_det T.ops self.now)) T.ops.zero }
     {
         let det = self.determinant();
         let m33 = even(

@@ -1,4 +1,6 @@
 // Transforms of space.
+#![tactic(auto)]
+
 pub mod images;
 pub mod inverse;
 pub mod makes;

@@ -25,7 +25,7 @@ impl<T, Src: Tag, Dst: Tag> Transform3D<T, Src, Dst> {
         m43: T,
         m44: T,
     ) -> Transform3D<T, Src, Dst>
-        ensures { result ≡ solid m11 m12 m13 m14 m21 m22 m23 m24 m31 m32 m33 m34 m41 m42 m43 m44 Src.Tag.label Dst.Tag.label }
+        ensures { result ≡ solid m11 m12 m13 m14 m21 m22 m23 m24 m31 m32 m33 m34 m41 m42 m43 m44 Src.label Dst.label }
     {
         Transform3D {
             m11,
@@ -53,7 +53,7 @@ impl<T, Src: Tag, Dst: Tag> Transform3D<T, Src, Dst> {
 impl<T: Scalar, Src: Tag, Dst: Tag> Transform3D<T, Src, Dst> {
     // A transform of the plane.
     pub fn new_2d(m11: T, m12: T, m21: T, m22: T, m41: T, m42: T) -> Transform3D<T, Src, Dst>
-        ensures { result ≡ solid_2d T.Scalar.ops m11 m12 m21 m22 m41 m42 Src.Tag.label Dst.Tag.label }
+        ensures { result ≡ solid_2d T.ops m11 m12 m21 m22 m41 m42 Src.label Dst.label }
     {
         let (zero, one) = (T::zero(), T::one());
         Transform3D {
@@ -79,13 +79,13 @@ impl<T: Scalar, Src: Tag, Dst: Tag> Transform3D<T, Src, Dst> {
     }
 
     pub fn identity() -> Transform3D<T, Src, Dst>
-        ensures { result ≡ solid_identity T.Scalar.ops Src.Tag.label Dst.Tag.label }
+        ensures { result ≡ solid_identity T.ops Src.label Dst.label }
     {
         Transform3D::translation(T::zero(), T::zero(), T::zero())
     }
 
     pub fn translation(x: T, y: T, z: T) -> Transform3D<T, Src, Dst>
-        ensures { result ≡ solid_translation T.Scalar.ops x y z Src.Tag.label Dst.Tag.label }
+        ensures { result ≡ solid_translation T.ops x y z Src.label Dst.label }
     {
         let (zero, one) = (T::zero(), T::one());
         Transform3D {
@@ -111,7 +111,7 @@ impl<T: Scalar, Src: Tag, Dst: Tag> Transform3D<T, Src, Dst> {
     }
 
     pub fn scale(x: T, y: T, z: T) -> Transform3D<T, Src, Dst>
-        ensures { result ≡ solid_scale T.Scalar.ops x y z Src.Tag.label Dst.Tag.label }
+        ensures { result ≡ solid_scale T.ops x y z Src.label Dst.label }
     {
         let (zero, one) = (T::zero(), T::one());
         Transform3D {
@@ -138,7 +138,7 @@ impl<T: Scalar, Src: Tag, Dst: Tag> Transform3D<T, Src, Dst> {
 
     // The view from the distance `d` above the plane z = 0, which stays where it is.
     pub fn perspective(d: T) -> Transform3D<T, Src, Dst>
-        ensures { result ≡ solid_perspective T.Scalar.ops d Src.Tag.label Dst.Tag.label }
+        ensures { result ≡ solid_perspective T.ops d Src.label Dst.label }
     {
         let (zero, one) = (T::zero(), T::one());
         Transform3D {
@@ -165,7 +165,7 @@ impl<T: Scalar, Src: Tag, Dst: Tag> Transform3D<T, Src, Dst> {
 
     // The view without perspective of the box between the given sides.
     pub fn ortho(left: T, right: T, bottom: T, top: T, near: T, far: T) -> Transform3D<T, Src, Dst>
-        ensures { result ≡ solid_ortho T.Scalar.ops left right bottom top near far Src.Tag.label Dst.Tag.label }
+        ensures { result ≡ solid_ortho T.ops left right bottom top near far Src.label Dst.label }
     {
         let two = T::one().add(T::one());
         let tx = right.add(left).div(right.sub(left)).neg();
@@ -223,13 +223,13 @@ impl<T: Copy, Src: Copy, Dst: Copy> Transform3D<T, Src, Dst> {
     }
 
     pub fn with_source<NewSrc: Tag>(&self) -> Transform3D<T, NewSrc, Dst>
-        ensures { result ≡ re_tagged self.now label self.now.dst }
+        ensures { result ≡ re_tagged self.now NewSrc.label self.now.dst }
     {
         self.between(NewSrc::tag(), self.dst)
     }
 
     pub fn with_destination<NewDst: Tag>(&self) -> Transform3D<T, Src, NewDst>
-        ensures { result ≡ re_tagged self.now self.now.src label }
+        ensures { result ≡ re_tagged self.now self.now.src NewDst.label }
     {
         self.between(self.src, NewDst::tag())
     }
@@ -243,7 +243,7 @@ impl<T: Copy, Src: Copy, Dst: Copy> Transform3D<T, Src, Dst> {
 
 impl<T: Copy, Src: Tag, Dst: Tag> Transform3D<T, Src, Dst> {
     pub fn from_untyped(m: &Transform3D<T, UnknownUnit, UnknownUnit>) -> Transform3D<T, Src, Dst>
-        ensures { result ≡ re_tagged m.now Src.Tag.label Dst.Tag.label }
+        ensures { result ≡ re_tagged m.now Src.label Dst.label }
     {
         m.between(Src::tag(), Dst::tag())
     }

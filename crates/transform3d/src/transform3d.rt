@@ -11,7 +11,7 @@ use sums::{dot4, eq4};
 impl<T: Scalar, Src: Tag, Dst: Copy> Transform3D<T, Src, Dst> {
     // A translation by `v`, and this transform after it.
     pub fn pre_translate(&self, v: Vector3D<T, Src>) -> Transform3D<T, Src, Dst>
-        ensures { result ≡ solid_then T.Scalar.ops (solid_translation T.Scalar.ops v.x v.y v.z Src.Tag.label Src.Tag.label) self.now }
+        ensures { result ≡ solid_then T.ops (solid_translation T.ops v.x v.y v.z Src.label Src.label) self.now }
     {
         Transform3D::<T, Src, Src>::translation(v.x, v.y, v.z).then(self)
     }
@@ -20,14 +20,14 @@ impl<T: Scalar, Src: Tag, Dst: Copy> Transform3D<T, Src, Dst> {
 impl<T: Scalar, Src: Copy, Dst: Tag> Transform3D<T, Src, Dst> {
     // This transform, and a translation by `v` after it.
     pub fn then_translate(&self, v: Vector3D<T, Dst>) -> Transform3D<T, Src, Dst>
-        ensures { result ≡ solid_then T.Scalar.ops self.now (solid_translation T.Scalar.ops v.x v.y v.z Dst.Tag.label Dst.Tag.label) }
+        ensures { result ≡ solid_then T.ops self.now (solid_translation T.ops v.x v.y v.z Dst.label Dst.label) }
     {
         self.then(&Transform3D::<T, Dst, Dst>::translation(v.x, v.y, v.z))
     }
 
     // This transform, and a scale after it.
     pub fn then_scale(&self, x: T, y: T, z: T) -> Transform3D<T, Src, Dst>
-        ensures { result ≡ solid_then T.Scalar.ops self.now (solid_scale T.Scalar.ops x y z Dst.Tag.label Dst.Tag.label) }
+        ensures { result ≡ solid_then T.ops self.now (solid_scale T.ops x y z Dst.label Dst.label) }
     {
         self.then(&Transform3D::<T, Dst, Dst>::scale(x, y, z))
     }
@@ -41,7 +41,7 @@ fn row_times<T: Scalar, Src: Copy, Dst: Copy>(
     a4: T,
     m: &Transform3D<T, Src, Dst>,
 ) -> (T, T, T, T)
-    ensures { result ≡ (let q = m.now in (dot4_of ops a1 q.m11 a2 q.m21 a3 q.m31 a4 q.m41, dot4_of ops a1 q.m12 a2 q.m22 a3 q.m32 a4 q.m42, dot4_of ops a1 q.m13 a2 q.m23 a3 q.m33 a4 q.m43, dot4_of ops a1 q.m14 a2 q.m24 a3 q.m34 a4 q.m44)) }
+    ensures { result ≡ (let q = m.now in (dot4_of T.ops a1 q.m11 a2 q.m21 a3 q.m31 a4 q.m41, dot4_of T.ops a1 q.m12 a2 q.m22 a3 q.m32 a4 q.m42, dot4_of T.ops a1 q.m13 a2 q.m23 a3 q.m33 a4 q.m43, dot4_of T.ops a1 q.m14 a2 q.m24 a3 q.m34 a4 q.m44)) }
 {
     (
         dot4(a1, m.m11, a2, m.m21, a3, m.m31, a4, m.m41),
@@ -57,7 +57,7 @@ impl<T: Scalar, Src: Copy, Dst: Copy> Transform3D<T, Src, Dst> {
         &self,
         other: &Transform3D<T, Dst, NewDst>,
     ) -> Transform3D<T, Src, NewDst>
-        ensures { result ≡ solid_then ops self.now other.now }
+        ensures { result ≡ solid_then T.ops self.now other.now }
     {
         let (m11, m12, m13, m14) = row_times(self.m11, self.m12, self.m13, self.m14, other);
         let (m21, m22, m23, m24) = row_times(self.m21, self.m22, self.m23, self.m24, other);
@@ -87,7 +87,7 @@ impl<T: Scalar, Src: Copy, Dst: Copy> Transform3D<T, Src, Dst> {
 
     // A scale, and this transform after it.
     pub fn pre_scale(&self, x: T, y: T, z: T) -> Transform3D<T, Src, Dst>
-        ensures { result ≡ solid_pre_scale ops self.now x y z }
+        ensures { result ≡ solid_pre_scale T.ops self.now x y z }
     {
         Transform3D {
             m11: self.m11.mul(x),
@@ -113,7 +113,7 @@ impl<T: Scalar, Src: Copy, Dst: Copy> Transform3D<T, Src, Dst> {
 
     // Every entry times `x`.
     pub fn mul_s(&self, x: T) -> Transform3D<T, Src, Dst>
-        ensures { result ≡ solid_times ops self.now x }
+        ensures { result ≡ solid_times T.ops self.now x }
     {
         Transform3D {
             m11: self.m11.mul(x),
@@ -138,7 +138,7 @@ impl<T: Scalar, Src: Copy, Dst: Copy> Transform3D<T, Src, Dst> {
     }
 
     pub fn eq(&self, other: &Transform3D<T, Src, Dst>) -> bool
-        ensures { result ≡ solid_eq ops self.now other.now }
+        ensures { result ≡ solid_eq T.ops self.now other.now }
     {
         eq4(
             self.m11, other.m11, self.m12, other.m12, self.m13, other.m13, self.m14, other.m14,
@@ -153,7 +153,7 @@ impl<T: Scalar, Src: Copy, Dst: Copy> Transform3D<T, Src, Dst> {
 
     // Whether this is a transform of the plane.
     pub fn is_2d(&self) -> bool
-        ensures { result ≡ is_2d ops self.now }
+        ensures { result ≡ is_2d T.ops self.now }
     {
         self.m31.eq(T::zero())
             && self.m32.eq(T::zero())
@@ -169,7 +169,7 @@ impl<T: Scalar, Src: Copy, Dst: Copy> Transform3D<T, Src, Dst> {
 
     // The transform of the plane that is seen along the z axis.
     pub fn project_to_2d(&self) -> Transform3D<T, Src, Dst>
-        ensures { result ≡ flattened ops self.now }
+        ensures { result ≡ flattened T.ops self.now }
     {
         let mut result = *self;
         result.m31 = T::zero();
@@ -199,7 +199,7 @@ impl<T: Scalar, Src: Copy, Dst: Copy> Transform3D<T, Src, Dst> {
 
 // Whether the absolute values of three numbers are below `epsilon`.
 fn small3<T: Ordered>(a: T, b: T, c: T, epsilon: T) -> bool
-    ensures { result ≡ small3_of less absolute a b c epsilon }
+    ensures { result ≡ small3_of T.less T.absolute a b c epsilon }
 {
     a.abs().lt(epsilon) && b.abs().lt(epsilon) && c.abs().lt(epsilon)
 }
@@ -207,7 +207,7 @@ fn small3<T: Ordered>(a: T, b: T, c: T, epsilon: T) -> bool
 impl<T: Ordered, Src: Copy, Dst: Copy> Transform3D<T, Src, Dst> {
     // Whether, up to `epsilon`, this scales and moves the plane and does nothing else.
     pub fn is_scale_offset_2d_eps(&self, epsilon: T) -> bool
-        ensures { result ≡ is_scale_offset T.Scalar.ops less absolute self.now epsilon }
+        ensures { result ≡ is_scale_offset T.ops T.less T.absolute self.now epsilon }
     {
         small3(self.m12, self.m13, self.m14, epsilon)
             && small3(self.m21, self.m23, self.m24, epsilon)

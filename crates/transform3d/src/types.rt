@@ -1,6 +1,7 @@
 // A transform of space, by its fields. `src` and `dst` hold the one value of the space that is left and of the one that is reached.
 
 // A row (x, y, z, w) times this matrix of four by four.
+#[derive(Clone, Copy)]
 pub struct Transform3D<T, Src, Dst> {
     pub m11: T,
     pub m12: T,
@@ -21,5 +22,3 @@ pub struct Transform3D<T, Src, Dst> {
     pub src: Src,
     pub dst: Dst,
 }
-
-impl<T: Copy, Src: Copy, Dst: Copy> Copy for Transform3D<T, Src, Dst> {}

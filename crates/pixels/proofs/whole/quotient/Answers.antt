@@ -13,5 +13,5 @@ returns c =
     let b = c.args.b in
     let f = c.ranges.a.sfits in
     let g = c.ranges.b.sfits in
-    back32 _ c.clamp.type-inv ∙ simp widened at c.clamp.ensures
+    back32 _ c.clamp.type_inv ∙ simp widened at c.clamp.ensures
     ∙ ap clamped (back64 (quot_z a b) (omega (arith, mag-quot a b)) ∙ sym (truncated-quot a b c.requires))

@@ -3,8 +3,8 @@ use Rattle.report.specs.Text.{lines}
 use Rattle.report.proofs.Growing.{text_more, text_all}
 use Rattle.report.proofs.lines.put_lines.Goals as goal
 
-pub put-line-requires : goal.put-line-requires
-put-line-requires g c =
+pub put_line-requires : goal.put_line-requires
+put_line-requires g c =
     let width = g.L.Line.width in
     omega (arith, c.requires, c.loop-i.invariant.1, c.loop-i.invariant.2, mul-suc width c.loop-i.i, mul-le-mul_left width c.loop-i-test.true)
 
@@ -13,9 +13,9 @@ loop-i-preserved g c =
     let text = g.L.Line.text in
     let before = string_bytes c.loop-i.out in (
       text_more (lines text) text _ c.args.items.now c.loop-i.i before _ c.index-items-i.result c.loop-i-test.true (λ x rest. refl) c.loop-i.invariant.0
-          (c.put-line.ensures.bytes ∙ ap (λ x. before ++ text c.loop-i.i x) c.index-items-i.is),
-      omega (arith, c.loop-i.invariant.1, c.put-line.ensures.len, mul-suc g.L.Line.width c.loop-i.i),
-      omega (arith, c.loop-i.invariant.2, c.put-line.ensures.capacity),
+          (c.put_line.ensures.bytes ∙ ap (λ x. before ++ text c.loop-i.i x) c.index-items-i.is),
+      omega (arith, c.loop-i.invariant.1, c.put_line.ensures.len, mul-suc g.L.Line.width c.loop-i.i),
+      omega (arith, c.loop-i.invariant.2, c.put_line.ensures.capacity),
     )
 
 pub returns : goal.returns

@@ -6,7 +6,7 @@ use Rattle.report.proofs.lines.put_number_line.Goals as goal
 pub returns : goal.returns
 returns g c =
     record {
-      bytes = line_made (string_bytes c.args.out.now) _ _ _ c.args.word.now (decimal c.args.i) (numbers_text g.S.Shown.value c.args.fs.now) c.put-head.ensures.bytes c.put-numbers.ensures.bytes c.put.ensures.bytes;
-      len = omega (arith, c.put-head.ensures.len, c.put-numbers.ensures.len, c.put.ensures.len);
-      capacity = omega (arith, c.put-head.ensures.capacity, c.put-numbers.ensures.capacity, c.put.ensures.capacity);
+      bytes = line_made (string_bytes c.args.out.now) _ _ _ c.args.word.now (decimal c.args.i) (numbers_text g.S.Shown.value c.args.fs.now) c.put_head.ensures.bytes c.put_numbers.ensures.bytes c.put.ensures.bytes;
+      len = omega (arith, c.put_head.ensures.len, c.put_numbers.ensures.len, c.put.ensures.len);
+      capacity = omega (arith, c.put_head.ensures.capacity, c.put_numbers.ensures.capacity, c.put.ensures.capacity);
     }

@@ -10,11 +10,11 @@ loop-f-preserved g c =
     let value = g.S.Shown.value in
     let before = string_bytes c.loop-f.out in
     let z = c.shown.result in
-    let grown = then_more before _ _ (32 ∷ []) (signed_decimal (to_z w32 (of_z w32 z))) c.put.ensures.bytes c.put-signed.ensures.bytes in (
+    let grown = then_more before _ _ (32 ∷ []) (signed_decimal (to_z w32 (of_z w32 z))) c.put.ensures.bytes c.put_signed.ensures.bytes in (
       text_more (λ k. numbers_text value) (λ k f. 32 ∷ signed_decimal (value f)) _ c.args.fs.now c.loop-f.f-index before _ _ c.loop-f-test.true (λ x rest. refl) c.loop-f.invariant.0
-          (grown ∙ ap (λ z. before ++ (32 ∷ signed_decimal z)) (to_z-of_z w32 z (record { sfits = c.shown.type-inv }) ∙ c.shown.ensures)),
-      omega (arith, c.loop-f.invariant.1, c.put.ensures.len, c.put-signed.ensures.len),
-      omega (arith, c.loop-f.invariant.2, c.put.ensures.capacity, c.put-signed.ensures.capacity),
+          (grown ∙ ap (λ z. before ++ (32 ∷ signed_decimal z)) (to_z-of_z w32 z (record { sfits = c.shown.type_inv }) ∙ c.shown.ensures)),
+      omega (arith, c.loop-f.invariant.1, c.put.ensures.len, c.put_signed.ensures.len),
+      omega (arith, c.loop-f.invariant.2, c.put.ensures.capacity, c.put_signed.ensures.capacity),
     )
 
 pub returns : goal.returns

@@ -5,9 +5,9 @@ use Rattle.report.proofs.show.put_job.Goals as goal
 
 pub returns : goal.returns
 returns c =
-    let ss = lines step_line 0 c.as-slice.result.now in
-    let ps = lines point_line 0 c.as-slice-2.result.now in
-    let ws = lines frame_line 0 c.as-slice-3.result.now in
-    let first = string_bytes c.put-lines.new.out in
-    then_more (string_bytes c.args.out.now) first _ ss (ps ++ ws) c.put-lines.ensures.bytes (then_more first _ _ ps ws c.put-lines-2.ensures.bytes c.put-lines-3.ensures.bytes)
-    ∙ (λ i. c.requires.empty i ++ (lines step_line 0 (c.as-slice.ensures.value i) ++ (lines point_line 0 (c.as-slice-2.ensures.value i) ++ lines frame_line 0 (c.as-slice-3.ensures.value i))))
+    let ss = lines step_line 0 c.as_slice.result.now in
+    let ps = lines point_line 0 c.as_slice-2.result.now in
+    let ws = lines frame_line 0 c.as_slice-3.result.now in
+    let first = string_bytes c.put_lines.new.out in
+    then_more (string_bytes c.args.out.now) first _ ss (ps ++ ws) c.put_lines.ensures.bytes (then_more first _ _ ps ws c.put_lines-2.ensures.bytes c.put_lines-3.ensures.bytes)
+    ∙ (λ i. c.requires.empty i ++ (lines step_line 0 (c.as_slice.ensures.value i) ++ (lines point_line 0 (c.as_slice-2.ensures.value i) ++ lines frame_line 0 (c.as_slice-3.ensures.value i))))
