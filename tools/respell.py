@@ -44,7 +44,7 @@ def main():
     root = sys.argv[1] if len(sys.argv) > 1 else "."
     texts = {p: open(p, encoding="utf-8").read() for p in files(root)}
     mine = set().union(*(own(p, t) for p, t in texts.items())) - KEPT
-    mine = {n for n in mine if re.search(r"\w-\w", n) and not n.startswith("-") and not n.endswith("-")}
+    mine = {n for n in mine if n in CASED or (re.search(r"\w-\w", n) and not n.startswith("-") and not n.endswith("-"))}
     new = {n: CASED.get(n, n.replace("-", "_")) for n in mine}
     if len(set(new.values())) != len(new):
         sys.exit("two names fall together: " + " ".join(sorted(v for v in new.values() if list(new.values()).count(v) > 1)))
@@ -57,8 +57,8 @@ def main():
     word = re.compile(r"(?<![\w'′*ℤ·+-])(" + "|".join(sorted(map(re.escape, new), key=len, reverse=True)) + r")(?![\w'′ℤ·-])")
     changed = 0
     for p, t in texts.items():
-        # strings of the programs stay as they are
-        pieces = re.split(r'("(?:[^"\\\n]|\\.)*")', t) if p.endswith(".rt") else [t]
+        # strings stay as they are
+        pieces = re.split(r'("(?:[^"\\\n]|\\.)*")', t)
         said = "".join(x if i % 2 else word.sub(lambda m: new[m[1]], x) for i, x in enumerate(pieces))
         if said != t:
             changed += 1

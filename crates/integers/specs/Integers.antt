@@ -3,11 +3,11 @@ use Rattle.std.specs.Prelude.{Bool, false, ℤ, pos, negsuc, ◌+ℤ◌, ◌-ℤ
 use Rattle.scalar.specs.Ops.{Ops}
 
 -- whether two integers are the same
-abbrev pub eqZ : ℤ → ℤ → Bool
-eqZ (pos a) (pos b) = a == b
-eqZ (pos a) (negsuc b) = false
-eqZ (negsuc a) (pos b) = false
-eqZ (negsuc a) (negsuc b) = a == b
+abbrev pub eq_z : ℤ → ℤ → Bool
+eq_z (pos a) (pos b) = a == b
+eq_z (pos a) (negsuc b) = false
+eq_z (negsuc a) (pos b) = false
+eq_z (negsuc a) (negsuc b) = a == b
 
 -- `value` is the integer that a scalar holds, and `fit` makes a scalar of the exact result of an operation. `unit` stands for one, and `scaled` and `quotient` say what a product and a quotient are before they are made to fit
 module _ {S : Type 0} (value : S → ℤ) (fit : ℤ → S) (unit : ℤ) (scaled : ℤ → ℤ) (quotient : ℤ → ℤ → ℤ) where
@@ -20,7 +20,7 @@ module _ {S : Type 0} (value : S → ℤ) (fit : ℤ → S) (unit : ℤ) (scaled
     mul = λ a b. fit (scaled (value a *ℤ value b));
     neg = λ a. fit (neg_ℤ (value a));
     div = λ a b. fit (quotient (value a) (value b));
-    eq = λ a b. eqZ (value a) (value b);
+    eq = λ a b. eq_z (value a) (value b);
   }
 
 module _ {S : Type 0} (value : S → ℤ) where
