@@ -2,8 +2,7 @@
 use crate::number::Number;
 use crate::refusal::{Fault, Refusal};
 use crate::shapes::{Answer, Numbers, Shape, Supply};
-use boxes::types::{Box2D, Box3D, Rect};
-use geometry::types::{HomogeneousVector, Point2D, Point3D};
+use geometry::types::{Box2D, Box3D, HomogeneousVector, Point2D, Point3D, Rect};
 use numbers::types::{Count, Real};
 use pixels::types::{Pixel, Whole};
 use residues::types::Residue;

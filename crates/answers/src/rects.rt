@@ -3,7 +3,7 @@ use crate::number::Number;
 use crate::refusal::{Fault, Refusal};
 use crate::shapes::{Answer, Numbers, Shape};
 use crate::table::Asked;
-use boxes::types::{Box2D, Box3D, Rect};
+use geometry::types::{Box2D, Box3D, Rect};
 use spaces::Camera;
 
 type R<T> = Rect<T, Camera>;

@@ -1,8 +1,9 @@
 // How the types stand in a question and in an answer: as their numbers, in the order of their fields.
 use crate::number::Number;
 use crate::refusal::{Fault, Refusal};
-use boxes::types::{Box2D, Box3D, Rect};
-use geometry::types::{HomogeneousVector, Point2D, Point3D, Size2D, Vector2D, Vector3D};
+use geometry::types::{
+    Box2D, Box3D, HomogeneousVector, Point2D, Point3D, Rect, Size2D, Vector2D, Vector3D,
+};
 use scalar::Tag;
 use std::slice::Iter;
 use transform2d::types::{ScaleOffset2D, Transform2D};

@@ -3,10 +3,11 @@ use crate::number::Number;
 use crate::ordered::{Orderable, OrderedFunction};
 use crate::refusal::{Fault, Refusal};
 use crate::shapes::{Answer, Numbers, Supply};
-use boxes::types::{Box2D, Box3D, Rect};
 use geometry::point::{point2, point3};
 use geometry::size::size2;
-use geometry::types::{HomogeneousVector, Point2D, Point3D, Size2D, Vector2D, Vector3D};
+use geometry::types::{
+    Box2D, Box3D, HomogeneousVector, Point2D, Point3D, Rect, Size2D, Vector2D, Vector3D,
+};
 use geometry::vector::{vec2, vec3};
 use spaces::{Camera, Hide};
 use std::alloc::Global;

@@ -37,6 +37,24 @@ pub struct Size2D<T, U> {
     pub unit: U,
 }
 
+#[derive(Clone, Copy)]
+pub struct Rect<T, U> {
+    pub origin: Point2D<T, U>,
+    pub size: Size2D<T, U>,
+}
+
+#[derive(Clone, Copy)]
+pub struct Box2D<T, U> {
+    pub min: Point2D<T, U>,
+    pub max: Point2D<T, U>,
+}
+
+#[derive(Clone, Copy)]
+pub struct Box3D<T, U> {
+    pub min: Point3D<T, U>,
+    pub max: Point3D<T, U>,
+}
+
 // A point or a vector of the plane or of space by four coordinates, as a row.
 #[derive(Clone, Copy)]
 pub struct HomogeneousVector<T, U> {

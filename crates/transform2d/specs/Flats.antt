@@ -4,9 +4,9 @@ use Rattle.scalar.specs.Ops.{Ops}
 use Rattle.sums.specs.Sums.{dot2, cross}
 use Rattle.geometry.specs.declared.types.Point2D.{Point2D}
 use Rattle.geometry.specs.declared.types.Vector2D.{Vector2D}
-use Rattle.boxes.specs.declared.types.Box2D.{Box2D}
+use Rattle.geometry.specs.declared.types.Box2D.{Box2D}
 use Rattle.geometry.specs.Points.{point2, vec2}
-use Rattle.boxes.specs.Boxes.{box2, grown2}
+use Rattle.geometry.specs.Boxes.{box2, grown2}
 use Rattle.transform2d.specs.declared.types.Transform2D.{Transform2D}
 
 -- the transform with these three rows

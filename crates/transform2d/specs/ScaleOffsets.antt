@@ -3,9 +3,9 @@ use Rattle.std.specs.Prelude.{Bool, cond, not, ◌&&◌, ◌||◌, Some, None, O
 use Rattle.scalar.specs.Ops.{Ops}
 use Rattle.geometry.specs.declared.types.Point2D.{Point2D}
 use Rattle.geometry.specs.declared.types.Vector2D.{Vector2D}
-use Rattle.boxes.specs.declared.types.Box2D.{Box2D}
+use Rattle.geometry.specs.declared.types.Box2D.{Box2D}
 use Rattle.geometry.specs.Points.{point2, vec2}
-use Rattle.boxes.specs.Boxes.{box2}
+use Rattle.geometry.specs.Boxes.{box2}
 use Rattle.transform2d.specs.declared.types.ScaleOffset2D.{ScaleOffset2D}
 
 abbrev pub scale_offset : {S A B : Type 0} → S → S → S → S → A → B → ScaleOffset2D S A B

@@ -1,11 +1,10 @@
 // Scale-offsets of the plane.
 ghost use Rattle.std.specs.Prelude.{◌≡◌, ◌&&◌};
-ghost use Rattle.boxes.specs.Boxes.{box_rect, rect_box};
+ghost use Rattle.geometry.specs.Boxes.{box_rect, rect_box};
 ghost use Rattle.transform2d.specs.ScaleOffsets.{scale_offset, scale_offset_point, scale_offset_vector, scale_offset_box, scale_offset_then, scale_offset_eq, scale_offset_inverse, usable, re_tagged};
 
 use crate::types::ScaleOffset2D;
-use boxes::types::{Box2D, Rect};
-use geometry::types::{Point2D, Vector2D};
+use geometry::types::{Box2D, Point2D, Rect, Vector2D};
 use geometry::unit::UnknownUnit;
 use scalar::{Ordered, Scalar, Tag};
 

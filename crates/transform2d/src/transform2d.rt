@@ -1,12 +1,11 @@
 // Transforms of the plane.
 ghost use Rattle.std.specs.Prelude.{◌≡◌, not, ◌&&◌};
-ghost use Rattle.boxes.specs.Boxes.{box_rect, rect_box};
+ghost use Rattle.geometry.specs.Boxes.{box_rect, rect_box};
 ghost use Rattle.transform2d.specs.Flats.{flat, flat_identity, flat_translation, flat_scale, flat_then, flat_pre_scale, flat_eq, flat_det, flat_inverse, flat_point, flat_vector, flat_box, re_tagged};
 ghost use Rattle.transform2d.specs.Widened.{solid_of, scale_offset_of};
 
 use crate::types::{ScaleOffset2D, Transform2D};
-use boxes::types::{Box2D, Rect};
-use geometry::types::{Point2D, Vector2D};
+use geometry::types::{Box2D, Point2D, Rect, Vector2D};
 use geometry::unit::UnknownUnit;
 use scalar::{Ordered, Scalar, Tag};
 use sums::{affine2, cross, dot2};

@@ -7,11 +7,11 @@ use Rattle.geometry.specs.declared.types.Point3D.{Point3D}
 use Rattle.geometry.specs.declared.types.Vector2D.{Vector2D}
 use Rattle.geometry.specs.declared.types.Vector3D.{Vector3D}
 use Rattle.geometry.specs.declared.types.HomogeneousVector.{HomogeneousVector}
-use Rattle.boxes.specs.declared.types.Box2D.{Box2D}
-use Rattle.boxes.specs.declared.types.Box3D.{Box3D}
-use Rattle.boxes.specs.declared.types.Rect.{Rect}
+use Rattle.geometry.specs.declared.types.Box2D.{Box2D}
+use Rattle.geometry.specs.declared.types.Box3D.{Box3D}
+use Rattle.geometry.specs.declared.types.Rect.{Rect}
 use Rattle.geometry.specs.Points.{point2, vec2, vec3, homogeneous, cartesian2, cartesian3, point3}
-use Rattle.boxes.specs.Boxes.{box2, box3, grown2, grown3, rect_box, box_rect}
+use Rattle.geometry.specs.Boxes.{box2, box3, grown2, grown3, rect_box, box_rect}
 use Rattle.transform3d.specs.declared.types.Transform3D.{Transform3D}
 
 -- the transform with these four rows

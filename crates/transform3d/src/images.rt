@@ -4,8 +4,9 @@ ghost use Rattle.geometry.specs.Points.{cartesian2, cartesian3};
 ghost use Rattle.transform3d.specs.Solids.{image_point2, image_point3, image_vector2, image_vector3, outer_box2, outer_rect, taken_in, edge_taken_in, outer_box3};
 
 use crate::types::Transform3D;
-use boxes::types::{Box2D, Box3D, Rect};
-use geometry::types::{HomogeneousVector, Point2D, Point3D, Vector2D, Vector3D};
+use geometry::types::{
+    Box2D, Box3D, HomogeneousVector, Point2D, Point3D, Rect, Vector2D, Vector3D,
+};
 use scalar::{Ordered, Scalar};
 use sums::{affine2, affine3, dot2, dot3};
 

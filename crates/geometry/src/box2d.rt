@@ -1,11 +1,10 @@
 // Boxes of the plane, by their minimum and maximum.
 ghost use Rattle.std.specs.Prelude.{◌≡◌, fold};
-ghost use Rattle.boxes.specs.Boxes.{box2, box_size, box_rect, grown2, box_of2, eq_boxes2};
+ghost use Rattle.geometry.specs.Boxes.{box2, box_size, box_rect, grown2, box_of2, eq_boxes2};
 ghost use Rattle.geometry.specs.Points.{point2 as point2_of};
 
 use crate::order::{larger, smaller};
-use crate::types::{Box2D, Rect};
-use geometry::types::{Point2D, Size2D};
+use crate::types::{Box2D, Point2D, Rect, Size2D};
 use scalar::{Ordered, Scalar, Tag};
 
 impl<T, U> Box2D<T, U> {

@@ -1,8 +1,8 @@
 use Rattle.std.proofs.Common.{fold, ap, ◌∙◌, rules}
 use Rattle.std.proofs.lemmas.List.{take_all}
 use Rattle.std.proofs.lemmas.List.Sums.{fold_more}
-use Rattle.boxes.specs.Boxes.{grown2}
-use Rattle.boxes.proofs.types.Box2D.grow_by.Goals as goal
+use Rattle.geometry.specs.Boxes.{grown2}
+use Rattle.geometry.proofs.types.Box2D.grow_by.Goals as goal
 
 pub loop-p-preserved : goal.loop-p-preserved
 loop-p-preserved g c = search (rules, fold_more)

@@ -1,11 +1,10 @@
 // Boxes of space, by their minimum and maximum.
 ghost use Rattle.std.specs.Prelude.{◌≡◌, fold};
-ghost use Rattle.boxes.specs.Boxes.{box3, grown3, box_of3, eq_boxes3};
+ghost use Rattle.geometry.specs.Boxes.{box3, grown3, box_of3, eq_boxes3};
 ghost use Rattle.geometry.specs.Points.{point3 as point3_of};
 
 use crate::order::{larger, smaller};
-use crate::types::Box3D;
-use geometry::types::Point3D;
+use crate::types::{Box3D, Point3D};
 use scalar::{Ordered, Scalar, Tag};
 
 impl<T, U> Box3D<T, U> {

@@ -1,6 +1,6 @@
 // The choice between two values by less-than. Where neither is below the other the first is kept, so also beside a NaN.
 ghost use Rattle.std.specs.Prelude.{◌≡◌};
-ghost use Rattle.boxes.specs.Boxes.{smaller as smaller_of, larger as larger_of};
+ghost use Rattle.geometry.specs.Boxes.{smaller as smaller_of, larger as larger_of};
 
 use scalar::Ordered;
 

@@ -1,7 +1,7 @@
 use Rattle.std.proofs.Common.{◌-◌, ◌<◌, length, take, drop, fold, sym, ap, ◌∙◌, arith, false-eqb}
 use Rattle.std.proofs.lemmas.Slice.{first_rest}
-use Rattle.boxes.specs.Boxes.{box3, grown3, box_of3}
-use Rattle.boxes.proofs.types.Box3D.from_points.Goals as goal
+use Rattle.geometry.specs.Boxes.{box3, grown3, box_of3}
+use Rattle.geometry.proofs.types.Box3D.from_points.Goals as goal
 
 pub returns : goal.returns
 returns g c =

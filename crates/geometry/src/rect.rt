@@ -1,10 +1,9 @@
 // Rectangles, by a corner and a size.
 ghost use Rattle.std.specs.Prelude.{◌≡◌};
-ghost use Rattle.boxes.specs.Boxes.{rect, rect_box, box_rect, box_of2, eq_rects};
+ghost use Rattle.geometry.specs.Boxes.{rect, rect_box, box_rect, box_of2, eq_rects};
 ghost use Rattle.geometry.specs.Points.{point_add};
 
-use crate::types::{Box2D, Rect};
-use geometry::types::{Point2D, Size2D};
+use crate::types::{Box2D, Point2D, Rect, Size2D};
 use scalar::{Ordered, Scalar, Tag};
 
 impl<T, U> Rect<T, U> {

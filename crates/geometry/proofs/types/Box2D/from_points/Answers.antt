@@ -1,7 +1,7 @@
 use Rattle.std.proofs.Common.{◌-◌, ◌<◌, length, take, drop, fold, sym, ap, ◌∙◌, arith, false-eqb}
 use Rattle.std.proofs.lemmas.Slice.{first_rest}
-use Rattle.boxes.specs.Boxes.{box2, grown2, box_of2}
-use Rattle.boxes.proofs.types.Box2D.from_points.Goals as goal
+use Rattle.geometry.specs.Boxes.{box2, grown2, box_of2}
+use Rattle.geometry.proofs.types.Box2D.from_points.Goals as goal
 
 pub returns : goal.returns
 returns g c =

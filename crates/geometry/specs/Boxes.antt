@@ -4,9 +4,9 @@ use Rattle.scalar.specs.Ops.{Ops}
 use Rattle.geometry.specs.declared.types.Point2D.{Point2D}
 use Rattle.geometry.specs.declared.types.Point3D.{Point3D}
 use Rattle.geometry.specs.declared.types.Size2D.{Size2D}
-use Rattle.boxes.specs.declared.types.Rect.{Rect}
-use Rattle.boxes.specs.declared.types.Box2D.{Box2D}
-use Rattle.boxes.specs.declared.types.Box3D.{Box3D}
+use Rattle.geometry.specs.declared.types.Rect.{Rect}
+use Rattle.geometry.specs.declared.types.Box2D.{Box2D}
+use Rattle.geometry.specs.declared.types.Box3D.{Box3D}
 use Rattle.geometry.specs.Points.{point2, point3, size2, point_add, eq_points2, eq_points3, eq_sizes}
 
 module _ {S U : Type 0} where
