@@ -1,7 +1,7 @@
 #!/usr/bin/env python3
 """Holds jobshow against a reader of its own, written from docs/JOB-FILE.md and docs/REFUSALS.md alone.
 
-    python3 oracle/jobshow.py [COUNT [SEED]]      from the repository's root, after `rt check jobshow`
+    python3 oracle/jobshow.py [COUNT [SEED]]      from the repository's root, after `rt run` in crates/jobshow
 
 Makes COUNT files (3,000 if not said): jobs, jobs cut short, with bytes changed, put in or left over, and noise;
 then every front part of the files in examples/. Ends with status 1 at the first file that is answered otherwise.
@@ -151,7 +151,7 @@ def main():
     seen, told = 0, {}
     for group in (files, fronts):
         for data in group:
-            run = subprocess.run(["target/bin/jobshow"], input=data, capture_output=True)
+            run = subprocess.run(["crates/jobshow/out/jobshow"], input=data, capture_output=True)
             want, status = answer(data)
             if (run.stdout.decode(), run.returncode, run.stderr) != (want, status, b""):
                 print("differs:", data.hex(), "\nwanted:", want, status, "\ngot:", run)

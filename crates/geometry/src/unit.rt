@@ -1,6 +1,5 @@
 // The space that is not said.
-ghost use Rattle.std.specs.Prelude.{◌≡◌};
-ghost use Rattle.std.proofs.Common.{rules};
+ghost use Rattle.std.specs.Prelude.{refl};
 
 use scalar::Tag;
 
@@ -10,7 +9,7 @@ pub struct UnknownUnit;
 impl Tag for UnknownUnit {
     ghost label = { record {} };
 
-    ghost only = { Prim.search rules };
+    ghost only = { λ _. refl };
 
     fn tag() -> UnknownUnit {
         UnknownUnit

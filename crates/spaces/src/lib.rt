@@ -2,9 +2,8 @@
 // What does not fit together by its spaces does not compile: the two functions below are the right uses of what is easily misused.
 #![tactic(auto)]
 
-ghost use Rattle.std.specs.Prelude.{◌≡◌};
+ghost use Rattle.std.specs.Prelude.{◌≡◌, refl};
 ghost use Rattle.transform2d.specs.Flats.{flat_then, flat_point};
-ghost use Rattle.std.proofs.Common.{rules};
 
 use geometry::types::Point2D;
 use scalar::{Scalar, Tag};
@@ -16,7 +15,7 @@ pub struct Camera;
 impl Tag for Camera {
     ghost label = { record {} };
 
-    ghost only = { Prim.search rules };
+    ghost only = { λ _. refl };
 
     fn tag() -> Camera {
         Camera
@@ -29,7 +28,7 @@ pub struct Hide;
 impl Tag for Hide {
     ghost label = { record {} };
 
-    ghost only = { Prim.search rules };
+    ghost only = { λ _. refl };
 
     fn tag() -> Hide {
         Hide
@@ -42,7 +41,7 @@ pub struct Beam;
 impl Tag for Beam {
     ghost label = { record {} };
 
-    ghost only = { Prim.search rules };
+    ghost only = { λ _. refl };
 
     fn tag() -> Beam {
         Beam
