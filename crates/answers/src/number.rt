@@ -80,9 +80,7 @@ impl Number for Residue {
 
 impl Number for Pixel {
     fn read(word: &str) -> Option<Pixel> {
-        Some(Pixel {
-            value: integer(word)?,
-        })
+        Some(Pixel::from(integer(word)?))
     }
 
     fn write(self, line: &mut String) -> Result<(), Fault> {
@@ -92,9 +90,7 @@ impl Number for Pixel {
 
 impl Number for Whole {
     fn read(word: &str) -> Option<Whole> {
-        Some(Whole {
-            value: integer(word)?,
-        })
+        Some(Whole::from(integer(word)?))
     }
 
     fn write(self, line: &mut String) -> Result<(), Fault> {

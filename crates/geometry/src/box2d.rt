@@ -1,5 +1,5 @@
 // Boxes of the plane, by their minimum and maximum.
-ghost use Rattle.std.specs.Prelude.{◌≡◌, fold};
+ghost use Rattle.std.specs.Prelude.{◌≡◌};
 ghost use Rattle.geometry.specs.Boxes.{box2, box_size, box_rect, grown2, box_of2, eq_boxes2};
 ghost use Rattle.geometry.specs.Points.{point2 as point2_of};
 
@@ -31,6 +31,7 @@ impl<T: Scalar, U: Copy> Box2D<T, U> {
         }
     }
 
+    // Not PartialEq, which would ask for laws of the scalar's equality.
     pub fn eq(&self, other: &Box2D<T, U>) -> bool
         ensures { result ≡ eq_boxes2 T.ops self.now other.now }
     {
@@ -56,15 +57,6 @@ impl<T: Ordered, U: Copy> Box2D<T, U> {
         self.min.y = smaller(self.min.y, p.y);
         self.max.y = larger(self.max.y, p.y);
     }
-
-    // Takes in all of the points, one at a time.
-    fn grow_by(&mut self, points: &[Point2D<T, U>])
-        ensures { self.new ≡ fold (grown2 T.less) self.old points.now }
-    {
-        for p in points {
-            self.grow(*p);
-        }
-    }
 }
 
 impl<T: Ordered, U: Tag> Box2D<T, U> {
@@ -72,12 +64,14 @@ impl<T: Ordered, U: Tag> Box2D<T, U> {
     pub fn from_points(points: &[Point2D<T, U>]) -> Box2D<T, U>
         ensures { result ≡ box_of2 T.less T.ops.zero U.label points.now }
     {
-        if points.is_empty() {
-            return Box2D::zero();
+        match points.split_first() {
+            Some((first, others)) => others
+                .iter()
+                .fold(Box2D::new(*first, *first), |mut outer, p| {
+                    outer.grow(*p);
+                    outer
+                }),
+            None => Box2D::zero(),
         }
-        let first = points[0];
-        let mut outer = Box2D::new(first, first);
-        outer.grow_by(&points[1..]);
-        outer
     }
 }

@@ -1,5 +1,5 @@
 // Boxes of space, by their minimum and maximum.
-ghost use Rattle.std.specs.Prelude.{◌≡◌, fold};
+ghost use Rattle.std.specs.Prelude.{◌≡◌};
 ghost use Rattle.geometry.specs.Boxes.{box3, grown3, box_of3, eq_boxes3};
 ghost use Rattle.geometry.specs.Points.{point3 as point3_of};
 
@@ -16,6 +16,7 @@ impl<T, U> Box3D<T, U> {
 }
 
 impl<T: Scalar, U: Copy> Box3D<T, U> {
+    // Not PartialEq, which would ask for laws of the scalar's equality.
     pub fn eq(&self, other: &Box3D<T, U>) -> bool
         ensures { result ≡ eq_boxes3 T.ops self.now other.now }
     {
@@ -43,15 +44,6 @@ impl<T: Ordered, U: Copy> Box3D<T, U> {
         self.min.z = smaller(self.min.z, p.z);
         self.max.z = larger(self.max.z, p.z);
     }
-
-    // Takes in all of the points, one at a time.
-    fn grow_by(&mut self, points: &[Point3D<T, U>])
-        ensures { self.new ≡ fold (grown3 T.less) self.old points.now }
-    {
-        for p in points {
-            self.grow(*p);
-        }
-    }
 }
 
 impl<T: Ordered, U: Tag> Box3D<T, U> {
@@ -59,12 +51,14 @@ impl<T: Ordered, U: Tag> Box3D<T, U> {
     pub fn from_points(points: &[Point3D<T, U>]) -> Box3D<T, U>
         ensures { result ≡ box_of3 T.less T.ops.zero U.label points.now }
     {
-        if points.is_empty() {
-            return Box3D::zero();
+        match points.split_first() {
+            Some((first, others)) => others
+                .iter()
+                .fold(Box3D::new(*first, *first), |mut outer, p| {
+                    outer.grow(*p);
+                    outer
+                }),
+            None => Box3D::zero(),
         }
-        let first = points[0];
-        let mut outer = Box3D::new(first, first);
-        outer.grow_by(&points[1..]);
-        outer
     }
 }

@@ -20,6 +20,7 @@ impl<T, U: Tag> HomogeneousVector<T, U> {
 }
 
 impl<T: Scalar, U: Copy> HomogeneousVector<T, U> {
+    // Not PartialEq, which would ask for laws of the scalar's equality.
     pub fn eq(&self, other: &HomogeneousVector<T, U>) -> bool
         ensures { result ≡ eq_homogeneous T.ops self.now other.now }
     {

@@ -70,6 +70,7 @@ impl<T: Scalar, U: Copy> Point2D<T, U> {
         }
     }
 
+    // Not PartialEq, which would ask for laws of the scalar's equality.
     pub fn eq(&self, other: &Point2D<T, U>) -> bool
         ensures { result ≡ eq_points2 T.ops self.now other.now }
     {
@@ -121,6 +122,7 @@ impl<T: Copy, U: Copy> Point3D<T, U> {
 }
 
 impl<T: Scalar, U: Copy> Point3D<T, U> {
+    // Not PartialEq, which would ask for laws of the scalar's equality.
     pub fn eq(&self, other: &Point3D<T, U>) -> bool
         ensures { result ≡ eq_points3 T.ops self.now other.now }
     {

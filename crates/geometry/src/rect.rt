@@ -38,6 +38,7 @@ impl<T: Scalar, U: Copy> Rect<T, U> {
         }
     }
 
+    // Not PartialEq, which would ask for laws of the scalar's equality.
     pub fn eq(&self, other: &Rect<T, U>) -> bool
         ensures { result ≡ eq_rects T.ops self.now other.now }
     {

@@ -25,6 +25,7 @@ pub fn size2<T, U: Tag>(w: T, h: T) -> Size2D<T, U>
 }
 
 impl<T: Scalar, U: Copy> Size2D<T, U> {
+    // Not PartialEq, which would ask for laws of the scalar's equality.
     pub fn eq(&self, other: &Size2D<T, U>) -> bool
         ensures { result ≡ eq_sizes T.ops self.now other.now }
     {

@@ -1,4 +1,6 @@
 // The types, by their fields. A field `unit` holds the one value of a space.
+// A type of the plane and its fellow of space, and their functions, are two texts: a struct cannot be generic over how many fields it has.
+// Points, vectors and sizes are types apart, so that none is taken for another.
 
 #[derive(Clone, Copy)]
 pub struct Point2D<T, U> {

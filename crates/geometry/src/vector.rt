@@ -37,6 +37,7 @@ impl<T: Copy, U: Copy> Vector2D<T, U> {
 }
 
 impl<T: Scalar, U: Copy> Vector2D<T, U> {
+    // Not PartialEq, which would ask for laws of the scalar's equality.
     pub fn eq(&self, other: &Vector2D<T, U>) -> bool
         ensures { result ≡ eq_vectors2 T.ops self.now other.now }
     {
@@ -65,6 +66,7 @@ pub fn vec3<T, U: Tag>(x: T, y: T, z: T) -> Vector3D<T, U>
 }
 
 impl<T: Scalar, U: Copy> Vector3D<T, U> {
+    // Not PartialEq, which would ask for laws of the scalar's equality.
     pub fn eq(&self, other: &Vector3D<T, U>) -> bool
         ensures { result ≡ eq_vectors3 T.ops self.now other.now }
     {

@@ -1,6 +1,5 @@
 pub mod Tests
 pub mod Ints
-pub mod Casts
 pub mod Rings
 pub mod Moduli
 pub mod Primes

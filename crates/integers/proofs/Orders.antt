@@ -2,9 +2,10 @@
 use Rattle.std.proofs.Common.{◌≡◌, suc, ◌+◌, ◌≤◌, true, false, T, ℤ, pos, negsuc, ◌+ℤ◌, ◌*ℤ◌, ◌≤ℤ◌, sym, ap, ◌∙◌, true≢false, mul-le-mul_right, add-mul, arith}
 use borrow.Author.Differences.{up, down, product_is, ints}
 use lib.Signed.{lt_z}
+use Rattle.std.proofs.lemmas.Float.{T_from_true}
 use Rattle.scalar.specs.Laws.{OrderLaws}
 use Rattle.integers.specs.Integers.{integer_ops, integer_less}
-use Rattle.integers.proofs.Tests.{holds, fails, passes}
+use Rattle.integers.proofs.Tests.{holds, fails}
 
 pub mul_rises : (a b c : ℤ) → lt_z c (pos 0) ≡ false → a ≤ℤ b → (a *ℤ c) ≤ℤ (b *ℤ c)
 mul_rises a b (pos n) s h =
@@ -31,7 +32,7 @@ module _ {S : Type 0} (value : S → ℤ) (fit : ℤ → S) (unit : ℤ) (scaled
   pub order : OrderLaws (integer_ops value fit unit scaled quotient) (integer_less value)
   order = record {
     irreflexive = λ x t. let s = holds t in omega (arith, ints);
-    transitive = λ x y z p q. let s = holds p in let r = holds q in passes (sym (omega (arith, ints)));
+    transitive = λ x y z p q. let s = holds p in let r = holds q in T_from_true _ (sym (omega (arith, ints)));
     total = λ x y p q. let s = fails p in let r = fails q in same x y (omega (arith, ints));
     add_left = λ x y z p. let s = holds p in not_below (value z +ℤ value x) (value z +ℤ value y) (omega (arith, ints));
     add_right = λ x y z p. let s = holds p in not_below (value x +ℤ value z) (value y +ℤ value z) (omega (arith, ints));

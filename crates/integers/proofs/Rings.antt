@@ -1,9 +1,10 @@
 -- Integers modulo a number form a ring, whichever integer stands for each class. Assumes nothing.
 use Rattle.std.proofs.Common.{◌≡◌, ℤ, pos, ◌+ℤ◌, ◌*ℤ◌, sym, ap, ◌∙◌}
 use lib.IntN.{+ℤ_assoc, +ℤ_comm, +ℤ_idr, +ℤ_invr, *ℤ_comm, *ℤ-one, one}
+use Rattle.std.proofs.lemmas.Float.{T_from_true}
 use Rattle.scalar.specs.Laws.{RingLaws, FieldLaws}
 use Rattle.integers.specs.Integers.{integer_ops}
-use Rattle.integers.proofs.Tests.{holds, passes}
+use Rattle.integers.proofs.Tests.{holds}
 use Rattle.integers.proofs.Ints.{*ℤ_assoc, *ℤ-+ℤ, eq_z_same, eq_z_refl}
 
 times_one : (a : ℤ) → a *ℤ pos 1 ≡ a
@@ -34,7 +35,7 @@ module _ {S : Type 0} (value : S → ℤ) (fit : ℤ → S)
     mul_add = λ x y z. product_right _ _ ∙ ap fit (*ℤ-+ℤ (value x) (value y) (value z)) ∙ sym (sum_left _ _ ∙ sum_right _ _);
     one_zero = apart;
     eq_same = λ x y e. sym (back x) ∙ ap fit (eq_z_same (value x) (value y) (holds e)) ∙ back y;
-    eq_self = λ x. passes (eq_z_refl (value x));
+    eq_self = λ x. T_from_true _ (eq_z_refl (value x));
   }
 
   -- a quotient by y is a product with an inverse of y

@@ -127,8 +127,8 @@ fn frame_of(fs: [Fraction; 4]) -> Frame
 fn upright(w: &Frame, index: usize) -> Result<(), FrameFault>
     ensures { MatchResult result (λ _. Upright w.now) (λ f. (f ≡ Backwards index) × (Upright w.now → ⊥)) }
 {
-    if Pixel::from_fraction(w.max_x).lt(Pixel::from_fraction(w.min_x))
-        || Pixel::from_fraction(w.max_y).lt(Pixel::from_fraction(w.min_y))
+    if Pixel::from(w.max_x).lt(Pixel::from(w.min_x))
+        || Pixel::from(w.max_y).lt(Pixel::from(w.min_y))
     {
         return Err(FrameFault::Backwards(index));
     }

@@ -4,8 +4,7 @@ use Rattle.std.proofs.Common.{of_z}
 use Rattle.std.specs.Int.{w32}
 use Rattle.std.specs.List.{flat_map, AllByRecursion}
 use Rattle.integers.specs.declared.fraction.Fraction.{Fraction}
-use Rattle.pixels.specs.declared.types.Pixel.{Pixel}
-use Rattle.pixels.specs.Pixels.{pixel_of, pixel_less}
+use Rattle.pixels.specs.Pixels.{Pixel, pixel_of, pixel_less}
 use Rattle.jobfile.specs.declared.faults.ReaderFault.{ReaderFault}
 use Rattle.jobfile.specs.declared.faults.ReaderFault.TheVariants.{Short, TooMany, UnknownCode, Denominator}
 use Rattle.jobfile.specs.declared.faults.FrameFault.TheVariants.{Backwards}

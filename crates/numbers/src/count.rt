@@ -1,11 +1,12 @@
 // The arithmetic of Count, which wraps.
-ghost use Rattle.std.specs.Prelude.{◌≡◌, refl, pos, ◌+ℤ◌, ◌-ℤ◌, ◌*ℤ◌, neg_ℤ, ◌≢◌};
-ghost use Rattle.integers.specs.Rounds.{truncated};
+ghost use Rattle.std.specs.Prelude.{◌≡◌, refl, ℤ};
+ghost use Rattle.std.specs.Int.{int_wrap, w32};
 ghost use Rattle.numbers.specs.Counts.{count, count_ops};
 
 use crate::types::Count;
 use scalar::{Ring, Scalar};
 
+#[tactic(auto, using(std::proofs::lemmas::Int::wraps))]
 impl Scalar for Count {
     type Plain = Count;
 
@@ -18,34 +19,34 @@ impl Scalar for Count {
     ghost back = { λ _. refl };
 
     fn zero() -> Count {
-        exact(0)
+        held(0)
     }
 
     fn one() -> Count {
-        exact(1)
+        held(1)
     }
 
     fn add(self, other: Count) -> Count {
-        sum(self.value, other.value)
+        held(self.value.wrapping_add(other.value))
     }
 
     fn sub(self, other: Count) -> Count {
-        difference(self.value, other.value)
+        held(self.value.wrapping_sub(other.value))
     }
 
     fn mul(self, other: Count) -> Count {
-        product(self.value, other.value)
+        held(self.value.wrapping_mul(other.value))
     }
 
     fn neg(self) -> Count {
-        negative(self.value)
+        held(self.value.wrapping_neg())
     }
 
     fn div(self, other: Count) -> Count {
         if other.value == 0 {
-            return exact(0);
+            return held(0);
         }
-        quotient(self.value, other.value)
+        held(self.value.wrapping_div(other.value))
     }
 
     fn eq(self, other: Count) -> bool {
@@ -65,49 +66,9 @@ impl Ring for Count {
     fn ring_laws() {}
 }
 
-fn exact(value: i32) -> Count
-    ensures { result ≡ count value }
+// The count of every integer that wraps to `value`.
+fn held(value: i32) -> Count
+    ensures { (z : ℤ) → value ≡ int_wrap w32 z → result ≡ count z }
 {
     Count { value }
-}
-
-fn sum(a: i32, b: i32) -> Count
-    ensures { result ≡ count (a +ℤ b) }
-{
-    Count {
-        value: a.wrapping_add(b),
-    }
-}
-
-fn difference(a: i32, b: i32) -> Count
-    ensures { result ≡ count (a -ℤ b) }
-{
-    Count {
-        value: a.wrapping_sub(b),
-    }
-}
-
-fn product(a: i32, b: i32) -> Count
-    ensures { result ≡ count (a *ℤ b) }
-{
-    Count {
-        value: a.wrapping_mul(b),
-    }
-}
-
-fn negative(a: i32) -> Count
-    ensures { result ≡ count (neg_ℤ a) }
-{
-    Count {
-        value: a.wrapping_neg(),
-    }
-}
-
-fn quotient(a: i32, b: i32) -> Count
-    requires { b ≢ pos 0 }
-    ensures { result ≡ count (truncated a b) }
-{
-    Count {
-        value: a.wrapping_div(b),
-    }
 }

@@ -1,2 +1,3 @@
+pub mod Clamps
 pub mod Pixels
 pub mod Wholes

@@ -20,7 +20,7 @@ impl Shown for Residue {
     ghost value = { residue_value };
 
     fn shown(f: Fraction) -> i32 {
-        Residue::from_fraction(f).value
+        Residue::from(f).value
     }
 }
 
@@ -28,7 +28,7 @@ impl Shown for Pixel {
     ghost value = { pixel_value };
 
     fn shown(f: Fraction) -> i32 {
-        Pixel::from_fraction(f).value
+        Pixel::from(f).value
     }
 }
 

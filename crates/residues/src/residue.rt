@@ -1,7 +1,5 @@
 // The arithmetic of Residue.
-ghost use Rattle.std.specs.Prelude.{◌≡◌, ℤ, pos, true};
-ghost use Rattle.std.specs.Int.Signed.{le_z};
-ghost use Rattle.integers.specs.Moduli.{reduced};
+ghost use Rattle.std.specs.Prelude.{◌≡◌};
 ghost use Rattle.residues.specs.Residues.{residue, residue_of, residue_ops};
 ghost use Rattle.residues.specs.ResiduesLemmas.{residue_back};
 
@@ -57,8 +55,7 @@ impl Scalar for Residue {
     }
 
     fn to_plain(self) -> i32 {
-        let Residue { value } = self;
-        value
+        self.value
     }
 
     fn from_plain(value: i32) -> Residue {
@@ -74,27 +71,20 @@ impl Field for Residue {
     fn field_laws() {}
 }
 
-impl Residue {
-    // The numerator times the inverse of the denominator.
-    pub fn from_fraction(f: Fraction) -> Residue
-        ensures { result ≡ residue_of f.num f.den }
-    {
+// The numerator times the inverse of the denominator.
+impl From<Fraction> for Residue {
+    ghost from_gives = { λ f r. r ≡ residue_of f.num f.den };
+
+    fn from(f: Fraction) -> Residue {
         Residue::from_plain(f.num).div(Residue::from_plain(f.den as i32))
     }
-}
-
-// The residue of every integer that `value` is the remainder of.
-fn held(value: i32) -> Residue
-    requires low { le_z (pos 0) value ≡ true }
-    requires high { le_z value (pos 65520) ≡ true }
-    ensures { (z : ℤ) → value ≡ reduced 65521 z → result ≡ residue z }
-{
-    Residue { value }
 }
 
 // The residue of `z`.
 fn fit(z: i64) -> Residue
     ensures { result ≡ residue z }
 {
-    held(reduce(z, PRIME))
+    Residue {
+        value: reduce(z, PRIME),
+    }
 }

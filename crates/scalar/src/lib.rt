@@ -39,9 +39,11 @@ pub trait Scalar: Copy {
     fn div(self, other: Self) -> Self
         ensures { result ≡ ops.div self other };
 
+    // Not PartialEq, whose laws a scalar need not keep.
     fn eq(self, other: Self) -> bool
         ensures { result ≡ ops.eq self other };
 
+    // Not From, whose relation would leave generic code more than one plain value.
     fn to_plain(self) -> Self::Plain
         ensures { result ≡ plain self };
 
@@ -64,7 +66,7 @@ pub trait Field: Ring {
         ensures { FieldLaws Self.Scalar.ops };
 }
 
-// A scalar with a less-than and an absolute value, and no law about either.
+// A scalar with a less-than and an absolute value, and no law about either, so that PartialOrd would ask too much.
 pub trait Ordered: Scalar {
     ghost less: { Self → Self → Bool };
 
@@ -83,7 +85,7 @@ pub trait OrderKeeping: Ordered {
         ensures { OrderLaws Self.Scalar.ops Self.Ordered.less };
 }
 
-// A space that coordinates are taken in. Its type has one value.
+// A space that coordinates are taken in. Its type has one value, which each space shows of itself, so each has an impl of its own.
 pub trait Tag: Copy {
     ghost label: { Self };
 

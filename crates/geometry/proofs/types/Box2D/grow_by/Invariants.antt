@@ -1,6 +1,0 @@
-use Rattle.std.proofs.Common.{◌≡◌, take, fold}
-use Rattle.geometry.specs.Boxes.{grown2}
-use Rattle.geometry.proofs.types.Box2D.grow_by.Given as goal
-
-abbrev pub invariant-loop-p : goal.invariant-loop-p
-invariant-loop-p g l = l.self ≡ fold (grown2 g.T.Ordered.less) l.initial.self (take l.p-index l.points)
