@@ -3,6 +3,6 @@
 
 mod lines;
 mod numbers;
+mod page;
 pub mod show;
 pub mod space;
-mod text;

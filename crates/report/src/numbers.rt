@@ -1,9 +1,10 @@
 // Numbers of the file, as they are shown.
-ghost use Rattle.std.specs.Prelude.{◌≡◌, ◌+◌, ◌*◌, ◌≤◌, ◌++◌, length, ℤ, string_bytes, string_len, string_capacity};
+ghost use Rattle.std.specs.Prelude.{◌≡◌, ◌*◌, ◌≤◌, length, ℤ};
 ghost use Rattle.integers.specs.declared.fraction.Fraction.{Fraction};
+ghost use Rattle.report.specs.Sheet.{Adds};
 ghost use Rattle.report.specs.Text.{numbers_text, residue_value, pixel_value};
 
-use crate::text::{put, put_signed};
+use crate::page::Page;
 use integers::fraction::Fraction;
 use pixels::types::Pixel;
 use residues::types::Residue;
@@ -32,15 +33,15 @@ impl Shown for Pixel {
     }
 }
 
-// Adds the numbers to `out`, with a blank before each.
-pub fn put_numbers<S: Shown>(out: &mut String, fs: &[Fraction])
-    requires { string_len out.old + 12 * length fs.now ≤ string_capacity out.old }
-    ensures bytes { string_bytes out.new ≡ string_bytes out.old ++ numbers_text S.Shown.value fs.now }
-    ensures len { string_len out.new ≤ string_len out.old + 12 * length fs.now }
-    ensures capacity { string_capacity out.old ≤ string_capacity out.new }
-{
-    for f in fs {
-        put(out, " ");
-        put_signed(out, S::shown(*f));
+impl Page {
+    // The numbers, with a blank before each.
+    pub fn put_numbers<S: Shown>(&mut self, fs: &[Fraction])
+        requires { 12 * length fs.now ≤ self.old.room }
+        ensures { Adds self.old self.new (numbers_text S.Shown.value fs.now) (12 * length fs.now) }
+    {
+        for f in fs {
+            self.put(" ");
+            self.put_number(S::shown(*f));
+        }
     }
 }

@@ -1,24 +1,29 @@
 // The memory of a report.
-ghost use Rattle.std.specs.Prelude.{◌≡◌, ◌≤◌, [], IfOk, string_bytes, string_len, string_capacity};
+ghost use Rattle.std.specs.Prelude.{◌≡◌, ◌≤◌, [], IfOk};
+ghost use Rattle.report.specs.declared.space.TheConstants.{LONGEST_TEXT};
 
+use crate::page::Page;
 use std::alloc::{AllocError, Global};
+
+// The most bytes that the lines of a job may take: each step 238, each point 63 and each frame 75.
+pub(crate) const LONGEST_TEXT: usize = 256 * 238 + 1024 * 63 + 256 * 75;
 
 // Room for the longest job and for its text, asked for before a file is looked at.
 #[derive(Drop)]
 pub struct Space {
     pub(crate) job: job::space::Space,
-    pub(crate) text: String,
-    ghost none: { string_len text ≡ 0 },
-    ghost room: { 144640 ≤ string_capacity text },
+    pub(crate) page: Page,
+    ghost blank: { page.bytes ≡ [] },
+    ghost room: { LONGEST_TEXT ≤ page.room },
 }
 
 impl Space {
     // An `Err` says that there is no memory.
     pub fn new(heap: Global) -> Result<Space, AllocError>
-        ensures { IfOk result (λ s. string_bytes s.text ≡ []) }
+        ensures { IfOk result (λ s. s.page.bytes ≡ []) }
     {
         let job = job::space::Space::new(heap)?;
-        let text = String::with_capacity(heap, 144640)?;
-        Ok(Space { job, text })
+        let page = Page::with_room(heap, LONGEST_TEXT)?;
+        Ok(Space { job, page })
     }
 }

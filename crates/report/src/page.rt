@@ -1,0 +1,52 @@
+// Text that grows within the room that was asked for at first.
+ghost use Rattle.std.specs.Prelude.{◌≡◌, ◌≤◌, [], length, IfOk, string_bytes};
+ghost use Rattle.report.specs.Sheet.{Adds};
+
+use itoa::{Buffer, Integer};
+use std::alloc::{AllocError, Global};
+use std::marker::Model;
+
+#[derive(Drop)]
+pub struct Page {
+    text: String,
+}
+
+impl Model for Page {
+    ghost use Rattle.std.specs.Prelude.{◌-◌, string_bytes, string_len, string_capacity};
+    ghost use Rattle.report.specs.Sheet.{Sheet};
+
+    ghost Value = { Sheet };
+
+    ghost view = { λ p. record { bytes = string_bytes p.text; room = string_capacity p.text - string_len p.text } };
+}
+
+impl Page {
+    // An `Err` says that there is no memory.
+    pub fn with_room(heap: Global, room: usize) -> Result<Page, AllocError>
+        ensures { IfOk result (λ p. (p.bytes ≡ []) × (room ≤ p.room)) }
+    {
+        let text = String::with_capacity(heap, room)?;
+        Ok(Page { text })
+    }
+
+    pub fn put(&mut self, s: &str)
+        requires { length s.now ≤ self.old.room }
+        ensures { Adds self.old self.new s.now (length s.now) }
+    {
+        // It cannot fail, since there is room.
+        let _ = self.text.push_str(s);
+    }
+
+    pub fn put_number<I: Integer>(&mut self, n: I)
+        requires { I.MAX_STR_LEN ≤ self.old.room }
+        ensures { Adds self.old self.new (I.text n) I.MAX_STR_LEN }
+    {
+        self.put(Buffer::new().format(n));
+    }
+
+    pub fn into_text(self) -> String
+        ensures { string_bytes result ≡ self.bytes }
+    {
+        self.text
+    }
+}
