@@ -75,27 +75,26 @@ fn frame(heap: Global, min_x: (i32, u16), max_x: (i32, u16)) -> Result<Vec<u8>, 
     Ok(bytes)
 }
 
-fn says(rt: &impl Abort, heap: Global, bytes: &[u8], text: &str) -> Result<(), Fail> {
-    let got = answer(heap, bytes)?;
+fn says<R: Abort + AllocGlobal>(rt: &R, bytes: &[u8], text: &str) -> Result<(), Fail> {
+    let got = answer(rt.alloc(), bytes)?;
     assert_eq!(rt; got.as_str(), text);
     Ok(())
 }
 
-fn says_when(rt: &impl Abort, heap: Global, at: usize, b: u8, text: &str) -> Result<(), Fail> {
-    let bytes = changed(heap, at, b)?;
-    says(rt, heap, bytes.as_slice(), text)
+fn says_when<R: Abort + AllocGlobal>(rt: &R, at: usize, b: u8, text: &str) -> Result<(), Fail> {
+    let bytes = changed(rt.alloc(), at, b)?;
+    says(rt, bytes.as_slice(), text)
 }
 
 #[test]
 fn an_empty_file_is_too_short(rt: HostRuntime) -> Result<(), Fail> {
-    says(&rt, rt.alloc(), &[], "REFUSED reader 1 0\n")
+    says(&rt, &[], "REFUSED reader 1 0\n")
 }
 
 #[test]
 fn the_sample_is_shown(rt: HostRuntime) -> Result<(), Fail> {
     says(
         &rt,
-        rt.alloc(),
         SAMPLE,
         "step 0 then scale-offset 32762 2 10 65517\npoint 0 4 5 0\nframe 0 0 0 512 512\n",
     )
@@ -103,65 +102,54 @@ fn the_sample_is_shown(rt: HostRuntime) -> Result<(), Fail> {
 
 // Where the item begins that is due at byte `n` of the sample.
 fn item_at(n: usize) -> usize {
-    if n < 2 {
-        0
-    } else if n < 27 {
-        2
-    } else if n < 29 {
-        27
-    } else if n < 47 {
-        29
-    } else if n < 49 {
-        47
-    } else {
-        49
+    match n {
+        0..2 => 0,
+        2..27 => 2,
+        27..29 => 27,
+        29..47 => 29,
+        47..49 => 47,
+        _ => 49,
     }
 }
 
 #[test]
 fn a_file_cut_anywhere_is_too_short_where_the_cut_item_begins(rt: HostRuntime) -> Result<(), Fail> {
     let heap = rt.alloc();
-    let sample = SAMPLE.to_vec(heap)?;
-    for n in 0..sample.len() {
+    for n in 0..SAMPLE.len() {
         let place = item_at(n);
         let text = format!(in heap; "REFUSED reader 1 {place}\n")?;
-        says(&rt, heap, &sample.as_slice()[0..n], text.as_str())?;
+        says(&rt, &SAMPLE[..n], text.as_str())?;
     }
     Ok(())
 }
 
 #[test]
 fn a_count_above_its_limit_is_refused_where_it_begins(rt: HostRuntime) -> Result<(), Fail> {
-    let heap = rt.alloc();
-    says_when(&rt, heap, 1, 2, "REFUSED reader 2 0\n")?;
-    says_when(&rt, heap, 28, 5, "REFUSED reader 2 27\n")?;
-    says_when(&rt, heap, 48, 2, "REFUSED reader 2 47\n")
+    says_when(&rt, 1, 2, "REFUSED reader 2 0\n")?;
+    says_when(&rt, 28, 5, "REFUSED reader 2 27\n")?;
+    says_when(&rt, 48, 2, "REFUSED reader 2 47\n")
 }
 
 #[test]
 fn an_unknown_code_is_refused_where_its_step_begins(rt: HostRuntime) -> Result<(), Fail> {
-    let heap = rt.alloc();
-    says_when(&rt, heap, 2, 0, "REFUSED reader 3 2\n")?;
-    says_when(&rt, heap, 2, 4, "REFUSED reader 3 2\n")?;
-    says_when(&rt, heap, 2, 16, "REFUSED reader 3 2\n")?;
-    says_when(&rt, heap, 2, 20, "REFUSED reader 3 2\n")?;
-    says_when(&rt, heap, 2, 31, "REFUSED reader 3 2\n")?;
-    says_when(&rt, heap, 2, 33, "REFUSED reader 3 2\n")
+    for code in [0, 4, 16, 20, 31, 33] {
+        says_when(&rt, 2, code, "REFUSED reader 3 2\n")?;
+    }
+    Ok(())
 }
 
 #[test]
 fn a_denominator_out_of_range_is_refused_where_its_item_begins(
     rt: HostRuntime,
 ) -> Result<(), Fail> {
-    let heap = rt.alloc();
-    says_when(&rt, heap, 13, 0, "REFUSED reader 4 2\n")?;
-    says_when(&rt, heap, 45, 0, "REFUSED reader 4 29\n")?;
-    says_when(&rt, heap, 71, 0, "REFUSED reader 4 49\n")?;
-    let mut bytes = changed(heap, 45, 241)?;
+    says_when(&rt, 13, 0, "REFUSED reader 4 2\n")?;
+    says_when(&rt, 45, 0, "REFUSED reader 4 29\n")?;
+    says_when(&rt, 71, 0, "REFUSED reader 4 49\n")?;
+    let mut bytes = changed(rt.alloc(), 45, 241)?;
     if let Some(x) = bytes.get_mut(46) {
         *x = 255;
     }
-    says(&rt, heap, bytes.as_slice(), "REFUSED reader 4 29\n")
+    says(&rt, bytes.as_slice(), "REFUSED reader 4 29\n")
 }
 
 #[test]
@@ -169,27 +157,25 @@ fn bytes_left_over_are_refused_at_the_first(rt: HostRuntime) -> Result<(), Fail>
     let heap = rt.alloc();
     let mut bytes = SAMPLE.to_vec(heap)?;
     bytes.extend_from_slice(&[0, 0])?;
-    says(&rt, heap, bytes.as_slice(), "REFUSED reader 5 73\n")
+    says(&rt, bytes.as_slice(), "REFUSED reader 5 73\n")
 }
 
 #[test]
 fn a_frame_turned_round_is_refused_by_its_index(rt: HostRuntime) -> Result<(), Fail> {
-    let heap = rt.alloc();
-    says_when(&rt, heap, 49, 3, "REFUSED frame 6 0\n")?;
-    says_when(&rt, heap, 55, 3, "REFUSED frame 6 0\n")
+    says_when(&rt, 49, 3, "REFUSED frame 6 0\n")?;
+    says_when(&rt, 55, 3, "REFUSED frame 6 0\n")
 }
 
 #[test]
 fn frames_are_compared_as_pixel_counts(rt: HostRuntime) -> Result<(), Fail> {
     let heap = rt.alloc();
     let level = frame(heap, (1, 257), (0, 1))?;
-    says(&rt, heap, level.as_slice(), "frame 0 0 0 0 0\n")?;
+    says(&rt, level.as_slice(), "frame 0 0 0 0 0\n")?;
     let turned = frame(heap, (0, 1), (-1, 3))?;
-    says(&rt, heap, turned.as_slice(), "REFUSED frame 6 0\n")?;
+    says(&rt, turned.as_slice(), "REFUSED frame 6 0\n")?;
     let clamped = frame(heap, (2147483647, 1), (8388608, 1))?;
     says(
         &rt,
-        heap,
         clamped.as_slice(),
         "frame 0 2147483647 0 2147483647 0\n",
     )
@@ -197,14 +183,13 @@ fn frames_are_compared_as_pixel_counts(rt: HostRuntime) -> Result<(), Fail> {
 
 #[test]
 fn an_unknown_code_comes_before_a_short_file(rt: HostRuntime) -> Result<(), Fail> {
-    says(&rt, rt.alloc(), &[1, 0, 99], "REFUSED reader 3 2\n")
+    says(&rt, &[1, 0, 99], "REFUSED reader 3 2\n")
 }
 
 #[test]
 fn a_short_file_comes_before_a_denominator(rt: HostRuntime) -> Result<(), Fail> {
     says(
         &rt,
-        rt.alloc(),
         &[0, 0, 1, 0, 4, 0, 0, 0, 0, 0, 5, 0],
         "REFUSED reader 1 4\n",
     )
@@ -214,7 +199,7 @@ fn a_short_file_comes_before_a_denominator(rt: HostRuntime) -> Result<(), Fail> 
 fn a_denominator_comes_before_a_frame_turned_round(rt: HostRuntime) -> Result<(), Fail> {
     let heap = rt.alloc();
     let bytes = frame(heap, (5, 1), (2, 0))?;
-    says(&rt, heap, bytes.as_slice(), "REFUSED reader 4 6\n")
+    says(&rt, bytes.as_slice(), "REFUSED reader 4 6\n")
 }
 
 #[test]
@@ -222,11 +207,7 @@ fn a_frame_turned_round_comes_before_bytes_left_over(rt: HostRuntime) -> Result<
     let heap = rt.alloc();
     let mut bytes = frame(heap, (5, 1), (2, 1))?;
     bytes.push(0)?;
-    says(&rt, heap, bytes.as_slice(), "REFUSED frame 6 0\n")
-}
-
-fn lines(text: &str) -> usize {
-    text.lines().count()
+    says(&rt, bytes.as_slice(), "REFUSED frame 6 0\n")
 }
 
 #[test]
@@ -238,9 +219,9 @@ fn the_longest_job_is_shown_and_one_byte_more_is_refused(rt: HostRuntime) -> Res
     put_section(&mut bytes, 256, None, 4)?;
     assert_eq!(rt; bytes.len(), 49414);
     let text = answer(heap, bytes.as_slice())?;
-    assert_eq!(rt; lines(text.as_str()), 1536);
+    assert_eq!(rt; text.as_str().lines().count(), 1536);
     bytes.push(0)?;
-    says(&rt, heap, bytes.as_slice(), "REFUSED reader 5 49414\n")
+    says(&rt, bytes.as_slice(), "REFUSED reader 5 49414\n")
 }
 
 #[test]
@@ -248,14 +229,14 @@ fn one_item_more_than_a_limit_is_refused(rt: HostRuntime) -> Result<(), Fail> {
     let heap = rt.alloc();
     let mut steps = Vec::new(heap);
     put_section(&mut steps, 257, Some(32), 0)?;
-    says(&rt, heap, steps.as_slice(), "REFUSED reader 2 0\n")?;
+    says(&rt, steps.as_slice(), "REFUSED reader 2 0\n")?;
     let mut points = Vec::new(heap);
     put_section(&mut points, 0, None, 0)?;
     put_section(&mut points, 1025, None, 3)?;
-    says(&rt, heap, points.as_slice(), "REFUSED reader 2 2\n")?;
+    says(&rt, points.as_slice(), "REFUSED reader 2 2\n")?;
     let mut frames = Vec::new(heap);
     put_section(&mut frames, 0, None, 0)?;
     put_section(&mut frames, 0, None, 0)?;
     put_section(&mut frames, 257, None, 4)?;
-    says(&rt, heap, frames.as_slice(), "REFUSED reader 2 4\n")
+    says(&rt, frames.as_slice(), "REFUSED reader 2 4\n")
 }

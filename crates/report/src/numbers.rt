@@ -9,7 +9,7 @@ use integers::fraction::Fraction;
 use pixels::types::Pixel;
 use residues::types::Residue;
 
-// A scalar that shows a number of the file by an integer.
+// A scalar that shows a number of the file by an integer. `Scalar::to_plain` is no such thing: of a Pixel it gives the Pixel.
 pub trait Shown {
     ghost value: { Fraction → ℤ };
 
