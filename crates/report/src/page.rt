@@ -1,4 +1,4 @@
-// Text that grows within the room that was asked for at first.
+// Text that grows within the room that was asked for at first, so that writing it never wants memory.
 ghost use Rattle.std.specs.Prelude.{◌≡◌, ◌≤◌, [], length, IfOk, string_bytes};
 ghost use Rattle.report.specs.Sheet.{Adds};
 
@@ -6,6 +6,7 @@ use itoa::{Buffer, Integer};
 use std::alloc::{AllocError, Global};
 use std::marker::Model;
 
+// In clauses it is the bytes that are written and the room that is left.
 #[derive(Drop)]
 pub struct Page {
     text: String,
@@ -23,7 +24,8 @@ impl Model for Page {
 impl Page {
     // An `Err` says that there is no memory.
     pub fn with_room(heap: Global, room: usize) -> Result<Page, AllocError>
-        ensures { IfOk result (λ p. (p.bytes ≡ []) × (room ≤ p.room)) }
+        ensures blank { IfOk result (λ p. p.bytes ≡ []) }
+        ensures room { IfOk result (λ p. room ≤ p.room) }
     {
         let text = String::with_capacity(heap, room)?;
         Ok(Page { text })
@@ -37,6 +39,7 @@ impl Page {
         let _ = self.text.push_str(s);
     }
 
+    // By itoa: std's `write!` to a String may fail, and no clause says that it succeeds where there is room.
     pub fn put_number<I: Integer>(&mut self, n: I)
         requires { I.MAX_STR_LEN ≤ self.old.room }
         ensures { Adds self.old self.new (I.text n) I.MAX_STR_LEN }
