@@ -18,54 +18,41 @@ pub struct Notice {
     pub place: usize,
 }
 
-fn of_reader(number: u8, place: usize) -> Notice
-    ensures { result ≡ record { layer = Layer.Reader; number = number; place = place } }
-{
-    Notice {
-        layer: Layer::Reader,
-        number,
-        place,
-    }
-}
+impl From<Fault> for Notice {
+    ghost from_gives = { λ fault notice. notice ≡ printed fault };
 
-impl Fault {
-    // The layer, the number and the place of the fault.
-    pub fn notice(self) -> Notice
-        ensures { result ≡ printed self }
-    {
-        match self {
-            Fault::Reader(ReaderFault::Short(place)) => of_reader(1, place),
-            Fault::Reader(ReaderFault::TooMany(place)) => of_reader(2, place),
-            Fault::Reader(ReaderFault::UnknownCode(place)) => of_reader(3, place),
-            Fault::Reader(ReaderFault::Denominator(place)) => of_reader(4, place),
-            Fault::Reader(ReaderFault::LeftOver(place)) => of_reader(5, place),
-            Fault::Frame(FrameFault::Backwards(index)) => Notice {
-                layer: Layer::Frame,
-                number: 6,
-                place: index,
-            },
+    fn from(fault: Fault) -> Notice {
+        let (layer, number, place) = match fault {
+            Fault::Reader(ReaderFault::Short(place)) => (Layer::Reader, 1, place),
+            Fault::Reader(ReaderFault::TooMany(place)) => (Layer::Reader, 2, place),
+            Fault::Reader(ReaderFault::UnknownCode(place)) => (Layer::Reader, 3, place),
+            Fault::Reader(ReaderFault::Denominator(place)) => (Layer::Reader, 4, place),
+            Fault::Reader(ReaderFault::LeftOver(place)) => (Layer::Reader, 5, place),
+            Fault::Frame(FrameFault::Backwards(index)) => (Layer::Frame, 6, index),
+        };
+        Notice {
+            layer,
+            number,
+            place,
         }
     }
 }
 
 impl fmt::Display for Layer {
-    ghost output = { λ l. Some (layer_text l) };
+    ghost output = { λ layer. Some (layer_text layer) };
 
     fn fmt<W: fmt::Write>(&self, f: &mut fmt::Formatter<W>) -> fmt::Result {
-        match self {
-            Layer::Reader => write!(f, "reader"),
-            Layer::Frame => write!(f, "frame"),
-        }
+        f.write_str(match self {
+            Layer::Reader => "reader",
+            Layer::Frame => "frame",
+        })
     }
 }
 
 impl fmt::Display for Notice {
-    ghost output = { λ n. Some (notice_text n) };
+    ghost output = { λ notice. Some (notice_text notice) };
 
     fn fmt<W: fmt::Write>(&self, f: &mut fmt::Formatter<W>) -> fmt::Result {
-        let layer = self.layer;
-        let number = self.number;
-        let place = self.place;
-        write!(f, "REFUSED {layer} {number} {place}")
+        write!(f, "REFUSED {} {} {}", self.layer, self.number, self.place)
     }
 }

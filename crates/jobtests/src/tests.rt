@@ -1,4 +1,5 @@
 // What is written of files that a shop could meet.
+use jobfile::notice::Notice;
 use report::show::show;
 use report::space::Space;
 use std::alloc::{AllocError, Global};
@@ -19,7 +20,7 @@ fn answer(heap: Global, bytes: &[u8]) -> Result<String, Fail> {
     match show(space, bytes) {
         Ok(text) => Ok(text),
         Err(fault) => {
-            let notice = fault.notice();
+            let notice = Notice::from(fault);
             Ok(format!(in heap; "{notice}\n")?)
         }
     }
