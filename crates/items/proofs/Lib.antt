@@ -1,3 +1,4 @@
 mod Bytes
-mod Codes
+mod Known
+pub mod Reading
 mod Runs

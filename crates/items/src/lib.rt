@@ -1,5 +1,6 @@
 // The readers of what a job file is made of: counts, numbers, steps, points and frames.
 #![tactic(auto)]
 
-pub mod fields;
+mod codes;
+pub mod cursor;
 pub mod items;

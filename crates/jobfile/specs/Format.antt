@@ -1,5 +1,5 @@
 -- The job file: three sections, each after its count. Assumes nothing.
-use Rattle.std.specs.Prelude.{◌≡◌, ℕ, ◌+◌, ◌<◌, ◌≤◌, List, ◌++◌, length, drop, vec_items}
+use Rattle.std.specs.Prelude.{◌≡◌, ℕ, ◌+◌, ◌<◌, ◌≤◌, List, ◌++◌, length, vec_items}
 use Rattle.std.specs.List.{flat_map, AllByRecursion}
 use Rattle.jobfile.specs.declared.faults.ReaderFault.{ReaderFault}
 use Rattle.jobfile.specs.declared.faults.ReaderFault.TheVariants.{LeftOver}
@@ -24,13 +24,6 @@ pub record GoodSection {A : Type 0} (kind : Kind A) (xs : List A) : Type 0 where
 pub data BadSection {A : Type 0} (kind : Kind A) (bs : List ℕ) (p : ℕ) : Fault → Type 0 where
   count : {f : ReaderFault} → BadCount kind.limit bs p f → BadSection kind bs p (FromReader f)
   item : (n : ℕ) (xs : List A) (rest : List ℕ) {f : Fault} → n ≤ kind.limit → AllByRecursion kind.Good xs → length xs < n → bs ≡ two n ++ (flat_map kind.bytes xs ++ rest) → kind.Bad rest (p + (2 + length (flat_map kind.bytes xs))) (length xs) f → BadSection kind bs p f
-
--- xs is the section of the file bs that begins at start and ends before end
-pub record SectionAt {A : Type 0} (kind : Kind A) (bs : List ℕ) (start : ℕ) (xs : List A) (end : ℕ) : Type 0 where
-  pub good : GoodSection kind xs
-  pub cut : drop start bs ≡ section_bytes kind xs ++ drop end bs
-  pub place : end ≡ start + length (section_bytes kind xs)
-  pub inside : end ≤ length bs
 
 -- the three lists of a job
 pub record Lists : Type 0 where

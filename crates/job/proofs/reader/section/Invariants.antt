@@ -3,4 +3,8 @@ use Rattle.job.proofs.Sections.{Partial}
 use Rattle.job.proofs.reader.section.Given as goal
 
 abbrev pub invariant-loop-i : goal.invariant-loop-i
-invariant-loop-i g l = Partial g.I.Item.kind l.bytes l.start l.n (vec_items l.items) l.i l.at × (vec_len l.items ≡ l.i) × (vec_capacity l.items ≡ vec_capacity l.initial.items)
+invariant-loop-i g l = record {
+  read_so_far : Partial g.I.Item.kind l.from l.n (vec_items l.items) l.i l.next;
+  len : vec_len l.items ≡ l.i;
+  capacity : vec_capacity l.items ≡ vec_capacity l.initial.items;
+}
