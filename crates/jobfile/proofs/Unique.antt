@@ -1,5 +1,5 @@
 -- A file has one answer.
-use Rattle.std.proofs.Common.{◌≡◌, ℕ, ◌+◌, ◌/◌, ◌%◌, ◌<◌, ◌≤◌, List, [], ◌∷◌, ◌++◌, length, sym, refl, ap, ◌∙◌, subst, append_assoc, append-nil, arith}
+use Rattle.std.proofs.Common.{◌≡◌, ℕ, ◌+◌, ◌<◌, ◌≤◌, List, [], ◌∷◌, ◌++◌, length, take, drop, sym, refl, ap, ◌∙◌, subst, append_assoc, append-nil, arith}
 use Rattle.std.specs.List.{flat_map, AllByRecursion}
 use Rattle.jobfile.specs.declared.faults.Fault.{Fault}
 use Rattle.jobfile.specs.declared.faults.Fault.TheVariants.{Reader as FromReader}
@@ -10,15 +10,11 @@ use Rattle.jobfile.specs.declared.parts.Point.{Point}
 use Rattle.jobfile.specs.declared.parts.Frame.{Frame}
 use Rattle.jobfile.specs.Items.{two, Kind, BadCount, steps, points, frames}
 use Rattle.jobfile.specs.Format.{section_bytes, GoodSection, BadSection, Lists, Good, Written, Fails, OneAnswer}
-use Rattle.jobfile.proofs.Exact.{Exact, two_same}
+use Rattle.jobfile.proofs.Exact.{Exact, two_same, items_cut}
 use Rattle.jobfile.proofs.Sorts.{steps_exact, points_exact, frames_exact}
 
 count_same : (m n : ℕ) (r s : List ℕ) → m < 65536 → n < 65536 → two m ++ r ≡ two n ++ s → (m ≡ n) × (r ≡ s)
-count_same m n r s p q e =
-    let a : m % 256 ≡ n % 256 = cc in
-    let b : m / 256 % 256 ≡ n / 256 % 256 = cc in
-    let c : r ≡ s = cc in
-    (two_same m n p q a b, c)
+count_same m n r s p q e = (two_same m n p q (ap (take 2) e), ap (drop 2) e)
 
 count_clash : (limit n : ℕ) (r : List ℕ) (p : ℕ) (f : ReaderFault) → limit < 65536 → n ≤ limit → BadCount limit (two n ++ r) p f → ⊥
 count_clash limit n r p f small le (BadCount.short h) = omega arith
@@ -36,15 +32,6 @@ count_one (BadCount.above m rest lt e more) (BadCount.above m' rest' lt' e' more
 module _ {A : Type 0} (kind : Kind A) (exact : Exact kind) where
   open_first : (x : A) (xs : List A) (r : List ℕ) → flat_map kind.bytes (x ∷ xs) ++ r ≡ kind.bytes x ++ (flat_map kind.bytes xs ++ r)
   open_first x xs r = append_assoc (kind.bytes x) (flat_map kind.bytes xs) r
-
-  items_cut : (xs ys : List A) (r s : List ℕ) → AllByRecursion kind.Good xs → AllByRecursion kind.Good ys → length xs ≡ length ys → flat_map kind.bytes xs ++ r ≡ flat_map kind.bytes ys ++ s → (xs ≡ ys) × (r ≡ s)
-  items_cut [] [] r s p q l e = (refl, e)
-  items_cut [] (y ∷ ys) r s p q l e = absurd (omega arith)
-  items_cut (x ∷ xs) [] r s p q l e = absurd (omega arith)
-  items_cut (x ∷ xs) (y ∷ ys) r s p q l e =
-      let first = exact.cut x y _ _ p.0 q.0 (sym (open_first x xs r) ∙ e ∙ open_first y ys s) in
-      let more = items_cut xs ys r s p.1 q.1 (omega arith) first.1 in
-      (λ i. first.0 i ∷ more.0 i, more.1)
 
   -- good items, more of them than stand before one that is bad
   items_clash : (xs ys : List A) (r rest : List ℕ) (p i : ℕ) (f : Fault) → AllByRecursion kind.Good xs → AllByRecursion kind.Good ys → length ys < length xs → flat_map kind.bytes xs ++ r ≡ flat_map kind.bytes ys ++ rest → kind.Bad rest p i f → ⊥
@@ -71,7 +58,7 @@ module _ {A : Type 0} (kind : Kind A) (exact : Exact kind) where
     pub section_cut : (xs ys : List A) (r s : List ℕ) → GoodSection kind xs → GoodSection kind ys → section_bytes kind xs ++ r ≡ section_bytes kind ys ++ s → (xs ≡ ys) × (r ≡ s)
     section_cut xs ys r s p q e =
         let first = count_same (length xs) (length ys) (flat_map kind.bytes xs ++ r) (flat_map kind.bytes ys ++ s) (omega (arith, p.within)) (omega (arith, q.within)) e in
-        items_cut xs ys r s p.each q.each first.0 first.1
+        items_cut kind.bytes kind.Good exact.cut xs ys r s p.each q.each first.0 first.1
 
     pub section_clash : (xs : List A) (r : List ℕ) (p : ℕ) (f : Fault) → GoodSection kind xs → BadSection kind (section_bytes kind xs ++ r) p f → ⊥
     section_clash xs r p f good (BadSection.count b) = count_clash kind.limit (length xs) (flat_map kind.bytes xs ++ r) p _ small good.within b
