@@ -1,4 +1,4 @@
 mod Bytes
-mod Known
 pub mod Reading
+mod Refusals
 mod Runs

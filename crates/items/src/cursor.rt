@@ -78,6 +78,7 @@ impl<'a> Cursor<'a> {
     }
 
     // A count of at most `limit`.
+    #[tactic(auto, using(crate::proofs::Refusals::refusals))]
     pub fn count(self, limit: u16) -> Result<(u16, Cursor<'a>), ReaderFault>
         ensures { MatchResult result (λ p. (p.0 ≤ limit) × Reads (two p.0) self.entry p.1) (λ f. BadCount limit self.entry.rest.now self.entry.at f) }
     {
@@ -89,6 +90,7 @@ impl<'a> Cursor<'a> {
     }
 
     // The next number, for the item that begins at `item`.
+    #[tactic(auto, using(crate::proofs::Refusals::refusals))]
     fn number(self, item: usize) -> Result<(Fraction, Cursor<'a>), ReaderFault>
         ensures { MatchResult result (λ p. Sound p.0 × Reads (fraction_bytes p.0) self.entry p.1) (λ f. BadNumbers 1 self.entry.rest.now item f) }
     {
@@ -101,6 +103,7 @@ impl<'a> Cursor<'a> {
     }
 
     // The next `N` numbers, for the item that begins at `item`.
+    #[tactic(auto, using(crate::proofs::Refusals::refusals))]
     pub fn numbers<const N: usize>(
         self,
         item: usize,

@@ -27,6 +27,7 @@ pub trait Item: Sized {
 }
 
 // The code that a step begins with.
+#[tactic(auto, using(crate::proofs::Refusals::refusals))]
 fn code(from: Cursor<'_>) -> Result<(StepCode, Cursor<'_>), ReaderFault>
     ensures { MatchResult result (λ p. Reads (step_byte p.0 ∷ []) from.entry p.1) (λ f. BadStep from.entry.rest.now from.entry.at f) }
 {
@@ -64,6 +65,7 @@ impl Item for Step {
         MOST_STEPS
     }
 
+    #[tactic(auto, using(crate::proofs::Refusals::refusals))]
     fn read(from: Cursor<'_>, _index: usize) -> Result<(Step, Cursor<'_>), Fault> {
         let (code, after) = code(from)?;
         match code {

@@ -1,14 +1,7 @@
-use Rattle.std.proofs.Common.{rules, arith, w32}
+use Rattle.std.proofs.Common.{arith, w32}
 use Rattle.std.proofs.lemmas.Int.{to_z-of_z}
-use Rattle.jobfile.specs.Items.{BadNumbers}
 use Rattle.items.proofs.Bytes.{number_reads, bad_number}
 use Rattle.items.proofs.cursor.Cursor.number.Goals as goal
-
-pub returns-in_err-num : goal.returns-in_err-num
-returns-in_err-num c = search (rules, BadNumbers.short)
-
-pub returns-in_err-den : goal.returns-in_err-den
-returns-in_err-den c = search (rules, BadNumbers.short)
 
 pub returns-then-den-eq0 : goal.returns-then-den-eq0
 returns-then-den-eq0 c = bad_number _ c.in_ok-den.den c.in_ok-num.ensures.0 c.in_ok-den.ensures.0 c.in_ok-den.ensures.1 (grind arith)
