@@ -1,7 +1,7 @@
 -- Enough bytes settle the answer.
-use Rattle.std.proofs.Common.{◌≡◌, ℕ, suc, ◌+◌, ◌*◌, ◌<◌, ◌≤◌, List, [], ◌∷◌, ◌++◌, length, get_or, drop, sym, refl, ap, ◌∙◌, subst, append_assoc, mul-le-mul_left, mul-suc, arith, length-append}
+use Rattle.std.proofs.Common.{◌≡◌, ℕ, suc, ◌+◌, ◌*◌, ◌<◌, ◌≤◌, List, [], ◌∷◌, ◌++◌, length, sym, ap, ◌∙◌, subst, append_assoc, mul-le-mul_left, mul-suc, arith, length-append}
 use Rattle.std.specs.List.{flat_map, AllByRecursion}
-use Rattle.std.proofs.lemmas.List.{get_or_append_left, drop_at}
+use Rattle.std.proofs.lemmas.Grind.{common_steps}
 use Rattle.jobfile.specs.declared.faults.Fault.{Fault}
 use Rattle.jobfile.specs.declared.faults.Fault.TheVariants.{Reader as FromReader, Frame as FromFrame}
 use Rattle.jobfile.specs.declared.faults.FrameFault.TheVariants.{Backwards}
@@ -17,17 +17,15 @@ use Rattle.jobfile.specs.Format.{section_bytes, GoodSection, BadSection, Fails, 
 use Rattle.jobfile.proofs.Runs.{run_length}
 
 leads_more : (front bs more : List ℕ) → Leads front bs → Leads front (bs ++ more)
-leads_more front bs more h =
-    let e = ap (λ t. t ++ more) h ∙ append_assoc front (drop (length front) bs) more in
-    e ∙ ap (λ t. front ++ t) (sym (drop_at front (drop (length front) bs ++ more) (length front) refl) ∙ ap (drop (length front)) (sym e))
+leads_more front bs more h = grind (arith, common_steps)
+
+den_grow : (k n : ℕ) (bs more : List ℕ) → 6 * n ≤ length bs → k < n → den_at k (bs ++ more) ≡ den_at k bs
+den_grow k n bs more le lt = grind (arith, common_steps)
 
 numbers_grow : {n : ℕ} {bs : List ℕ} {p : ℕ} {f : ReaderFault} (more : List ℕ) → 6 * n ≤ length bs → BadNumbers n bs p f → BadNumbers n (bs ++ more) p f
 numbers_grow more le (BadNumbers.short h) = absurd (omega arith)
 numbers_grow {n} {bs} {p} {f} more le (BadNumbers.denominator k le' lt bad) =
-    let a : get_or (bs ++ more) (6 * k + 4) 0 ≡ get_or bs (6 * k + 4) 0 = get_or_append_left bs more 0 (6 * k + 4) (omega arith) in
-    let b : get_or (bs ++ more) (6 * k + 5) 0 ≡ get_or bs (6 * k + 5) 0 = get_or_append_left bs more 0 (6 * k + 5) (omega arith) in
-    let same : den_at k (bs ++ more) ≡ den_at k bs = λ i. a i + b i * 256 in
-    BadNumbers.denominator k (omega (arith, length-append bs more)) lt (subst OutOfRange (sym same) bad)
+    BadNumbers.denominator k (omega (arith, length-append bs more)) lt (subst OutOfRange (sym (den_grow k n bs more le lt)) bad)
 
 grown : {P Q : ReaderFault → Type 0} → ((f : ReaderFault) → P f → Q f) → (f : Fault) → OfReader P f → OfReader Q f
 grown h (FromReader f) bad = h f bad

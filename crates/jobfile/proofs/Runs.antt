@@ -1,6 +1,6 @@
 -- A run of numbers: how many bytes it has, and where its denominators stand. Assumes nothing.
-use Rattle.std.proofs.Common.{◌≡◌, ℕ, ◌+◌, ◌*◌, List, [], ◌∷◌, ◌++◌, length, get_or, refl, ap, ◌∙◌, arith, length-append}
-use Rattle.std.proofs.lemmas.List.{get_or-append-add}
+use Rattle.std.proofs.Common.{◌≡◌, ℕ, ◌+◌, ◌*◌, List, [], ◌∷◌, ◌++◌, length, refl, arith, length-append}
+use Rattle.std.proofs.lemmas.Grind.{common_steps}
 use Rattle.std.specs.List.{flat_map}
 use Rattle.integers.specs.declared.fraction.Fraction.{Fraction}
 use Rattle.jobfile.specs.Items.{fraction_bytes, den_at}
@@ -15,7 +15,4 @@ run_length (f ∷ fs) = omega (arith, length-append (fraction_bytes f) (flat_map
 
 -- a denominator after m numbers
 pub den_after : (x r : List ℕ) (i m k : ℕ) → length x ≡ 6 * m → i ≡ m + k → den_at i (x ++ r) ≡ den_at k r
-den_after x r i m k long e =
-    let place : (j : ℕ) → 6 * i + j ≡ length x + (6 * k + j) = λ j. omega arith in
-    let byte : (j : ℕ) → get_or (x ++ r) (6 * i + j) 0 ≡ get_or r (6 * k + j) 0 = λ j. ap (λ n. get_or (x ++ r) n 0) (place j) ∙ get_or-append-add x r (6 * k + j) 0 in
-    λ n. byte 4 n + byte 5 n * 256
+den_after x r i m k long e = grind (arith, common_steps)

@@ -101,11 +101,7 @@ steps_exact = record {
 }
 
 point_same : (a b : Point) → point_numbers a ≡ point_numbers b → a ≡ b
-point_same a b e =
-    let x : a.x ≡ b.x = cc in
-    let y : a.y ≡ b.y = cc in
-    let z : a.z ≡ b.z = cc in
-    λ i. record { x = x i; y = y i; z = z i }
+point_same a b e = grind arith
 
 pub points_exact : Exact points
 points_exact = record {
@@ -115,12 +111,7 @@ points_exact = record {
 }
 
 frame_same : (a b : Frame) → frame_numbers a ≡ frame_numbers b → a ≡ b
-frame_same a b e =
-    let x : a.min_x ≡ b.min_x = cc in
-    let y : a.min_y ≡ b.min_y = cc in
-    let z : a.max_x ≡ b.max_x = cc in
-    let w : a.max_y ≡ b.max_y = cc in
-    λ i. record { min_x = x i; min_y = y i; max_x = z i; max_y = w i }
+frame_same a b e = grind arith
 
 frame_cut : (a b : Frame) (r s : List ℕ) → Numbers 4 (frame_numbers a) → Numbers 4 (frame_numbers b) → frame_bytes a ++ r ≡ frame_bytes b ++ s → (a ≡ b) × (r ≡ s)
 frame_cut a b r s p q e = let h = numbers_cut 4 (frame_numbers a) (frame_numbers b) r s p q e in (frame_same a b h.0, h.1)
