@@ -1,36 +1,34 @@
 -- Sums of products over any operations, in a fixed order. Assumes nothing.
-use Rattle.std.specs.Prelude.{Bool, ◌&&◌}
+use Rattle.std.specs.Prelude.{Bool, ◌&&◌, List, ◌∷◌}
 use Rattle.scalar.specs.Ops.{Ops}
 
 module _ {S : Type 0} (o : Ops S) where
-  open o use {add as ◌⊕◌, sub as ◌⊖◌, mul as ◌⊗◌}
+  open o use {add as ◌⊕◌, sub as ◌⊖◌, mul as ◌⊗◌, eq, zero as 𝟘}
 
   infixl 60 ◌⊕◌ ◌⊖◌
   infixl 70 ◌⊗◌
-  abbrev pub dot2 : S → S → S → S → S
-  dot2 a1 b1 a2 b2 = a1 ⊗ b1 ⊕ a2 ⊗ b2
+  -- s, and the product of each pair added to it, from the left
+  abbrev pub products_added : S → List S → List S → S
+  products_added s (a ∷ row) (b ∷ column) = products_added (s ⊕ a ⊗ b) row column
+  products_added s _ _ = s
 
-  abbrev pub dot3 : S → S → S → S → S → S → S
-  dot3 a1 b1 a2 b2 a3 b3 = a1 ⊗ b1 ⊕ a2 ⊗ b2 ⊕ a3 ⊗ b3
+  -- a1 b1 + a2 b2 + .., from the left: no zero comes before the first product. Zero where there is no pair.
+  abbrev pub dot : List S → List S → S
+  dot (a ∷ row) (b ∷ column) = products_added (a ⊗ b) row column
+  dot _ _ = 𝟘
 
-  abbrev pub dot4 : S → S → S → S → S → S → S → S → S
-  dot4 a1 b1 a2 b2 a3 b3 a4 b4 = a1 ⊗ b1 ⊕ a2 ⊗ b2 ⊕ a3 ⊗ b3 ⊕ a4 ⊗ b4
-
-  abbrev pub affine2 : S → S → S → S → S → S
-  affine2 a1 b1 a2 b2 c = a1 ⊗ b1 ⊕ a2 ⊗ b2 ⊕ c
-
-  abbrev pub affine3 : S → S → S → S → S → S → S → S
-  affine3 a1 b1 a2 b2 a3 b3 c = a1 ⊗ b1 ⊕ a2 ⊗ b2 ⊕ a3 ⊗ b3 ⊕ c
+  abbrev pub affine : List S → List S → S → S
+  affine row column c = dot row column ⊕ c
 
   abbrev pub cross : S → S → S → S → S
   cross a b c d = a ⊗ b ⊖ c ⊗ d
 
   -- The determinant of the matrix with rows a, b and c, and its negative, each in the order in which the adjugate writes it.
-  abbrev pub even : S → S → S → S → S → S → S → S → S → S
-  even a1 a2 a3 b1 b2 b3 c1 c2 c3 = a2 ⊗ b3 ⊗ c1 ⊖ a3 ⊗ b2 ⊗ c1 ⊕ a3 ⊗ b1 ⊗ c2 ⊖ a1 ⊗ b3 ⊗ c2 ⊖ a2 ⊗ b1 ⊗ c3 ⊕ a1 ⊗ b2 ⊗ c3
+  abbrev pub even : S × S × S → S × S × S → S × S × S → S
+  even (a1, a2, a3) (b1, b2, b3) (c1, c2, c3) = a2 ⊗ b3 ⊗ c1 ⊖ a3 ⊗ b2 ⊗ c1 ⊕ a3 ⊗ b1 ⊗ c2 ⊖ a1 ⊗ b3 ⊗ c2 ⊖ a2 ⊗ b1 ⊗ c3 ⊕ a1 ⊗ b2 ⊗ c3
 
-  abbrev pub odd : S → S → S → S → S → S → S → S → S → S
-  odd a1 a2 a3 b1 b2 b3 c1 c2 c3 = a3 ⊗ b2 ⊗ c1 ⊖ a2 ⊗ b3 ⊗ c1 ⊖ a3 ⊗ b1 ⊗ c2 ⊕ a1 ⊗ b3 ⊗ c2 ⊕ a2 ⊗ b1 ⊗ c3 ⊖ a1 ⊗ b2 ⊗ c3
+  abbrev pub odd : S × S × S → S × S × S → S × S × S → S
+  odd (a1, a2, a3) (b1, b2, b3) (c1, c2, c3) = a3 ⊗ b2 ⊗ c1 ⊖ a2 ⊗ b3 ⊗ c1 ⊖ a3 ⊗ b1 ⊗ c2 ⊕ a1 ⊗ b3 ⊗ c2 ⊕ a2 ⊗ b1 ⊗ c3 ⊖ a1 ⊗ b2 ⊗ c3
 
   abbrev pub product4 : S → S → S → S → S
   product4 a b c d = a ⊗ b ⊗ c ⊗ d
@@ -41,5 +39,5 @@ module _ {S : Type 0} (o : Ops S) where
   abbrev pub taken4 : S → S → S → S → S → S
   taken4 t a b c d = t ⊖ a ⊗ b ⊗ c ⊗ d
 
-  abbrev pub eq4 : S → S → S → S → S → S → S → S → Bool
-  eq4 a1 b1 a2 b2 a3 b3 a4 b4 = o.eq a1 b1 && (o.eq a2 b2 && (o.eq a3 b3 && o.eq a4 b4))
+  abbrev pub eq4 : S × S × S × S → S × S × S × S → Bool
+  eq4 (a1, a2, a3, a4) (b1, b2, b3, b4) = eq a1 b1 && (eq a2 b2 && (eq a3 b3 && eq a4 b4))

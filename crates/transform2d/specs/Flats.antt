@@ -1,7 +1,7 @@
 -- Transforms of the plane: a row (x, y, 1) times a matrix of three rows and two columns. Assumes nothing.
-use Rattle.std.specs.Prelude.{Bool, cond, ◌&&◌, Some, None, Option}
+use Rattle.std.specs.Prelude.{Bool, cond, ◌&&◌, Some, None, Option, List, [], ◌∷◌}
 use Rattle.scalar.specs.Ops.{Ops}
-use Rattle.sums.specs.Sums.{dot2, cross}
+use Rattle.sums.specs.Sums.{dot, affine, cross}
 use Rattle.geometry.specs.declared.types.Point2D.{Point2D}
 use Rattle.geometry.specs.declared.types.Vector2D.{Vector2D}
 use Rattle.geometry.specs.declared.types.Box2D.{Box2D}
@@ -15,6 +15,24 @@ abbrev pub flat : {S A B : Type 0}
     → S → S
     → S → S → A → B → Transform2D S A B
 flat m11 m12 m21 m22 m31 m32 a b = record { m11 = m11; m12 = m12; m21 = m21; m22 = m22; m31 = m31; m32 = m32; src = a; dst = b }
+
+-- the entries of each row and each column
+module _ {S A B : Type 0} where
+  abbrev pub row1 : Transform2D S A B → List S
+  row1 m = m.m11 ∷ m.m12 ∷ []
+
+  abbrev pub row2 : Transform2D S A B → List S
+  row2 m = m.m21 ∷ m.m22 ∷ []
+
+  abbrev pub row3 : Transform2D S A B → List S
+  row3 m = m.m31 ∷ m.m32 ∷ []
+
+  -- without the third row
+  abbrev pub column1 : Transform2D S A B → List S
+  column1 m = m.m11 ∷ m.m21 ∷ []
+
+  abbrev pub column2 : Transform2D S A B → List S
+  column2 m = m.m12 ∷ m.m22 ∷ []
 
 module _ {S : Type 0} (o : Ops S) where
   open o use {add as ◌⊕◌, sub as ◌⊖◌, mul as ◌⊗◌, div, eq, zero as 𝟘, one as 𝟙}
@@ -42,9 +60,9 @@ module _ {S : Type 0} (o : Ops S) where
   -- row by column, with the third column of each being (0, 0, 1): p, and q after it
   abbrev pub flat_then : {A B C : Type 0} → Transform2D S A B → Transform2D S B C → Transform2D S A C
   flat_then p q = flat
-      (dot2 o p.m11 q.m11 p.m12 q.m21) (dot2 o p.m11 q.m12 p.m12 q.m22)
-      (dot2 o p.m21 q.m11 p.m22 q.m21) (dot2 o p.m21 q.m12 p.m22 q.m22)
-      (dot2 o p.m31 q.m11 p.m32 q.m21 ⊕ q.m31) (dot2 o p.m31 q.m12 p.m32 q.m22 ⊕ q.m32)
+      (dot o (row1 p) (column1 q)) (dot o (row1 p) (column2 q))
+      (dot o (row2 p) (column1 q)) (dot o (row2 p) (column2 q))
+      (affine o (row3 p) (column1 q) q.m31) (affine o (row3 p) (column2 q) q.m32)
       p.src q.dst
 
   abbrev pub flat_pre_scale : {A B : Type 0} → Transform2D S A B → S → S → Transform2D S A B
@@ -72,10 +90,10 @@ module _ {S : Type 0} (o : Ops S) where
   flat_inverse p = cond (eq (flat_det p) 𝟘) None (Some (flat_back (div 𝟙 (flat_det p)) p))
 
   abbrev pub flat_point : {A B : Type 0} → Transform2D S A B → Point2D S A → Point2D S B
-  flat_point m p = point2 (dot2 o p.x m.m11 p.y m.m21 ⊕ m.m31) (dot2 o p.x m.m12 p.y m.m22 ⊕ m.m32) m.dst
+  flat_point m p = let row = p.x ∷ p.y ∷ [] in point2 (affine o row (column1 m) m.m31) (affine o row (column2 m) m.m32) m.dst
 
   abbrev pub flat_vector : {A B : Type 0} → Transform2D S A B → Vector2D S A → Vector2D S B
-  flat_vector m v = vec2 (dot2 o v.x m.m11 v.y m.m21) (dot2 o v.x m.m12 v.y m.m22) m.dst
+  flat_vector m v = let row = v.x ∷ v.y ∷ [] in vec2 (dot o row (column1 m)) (dot o row (column2 m)) m.dst
 
   -- the box of the images of the four corners, taken in one after another
   abbrev pub flat_box : (S → S → Bool) → {A B : Type 0} → Transform2D S A B → Box2D S A → Box2D S B

@@ -27,27 +27,7 @@ impl<T: Scalar, Src: Copy, Dst: Copy> ScaleOffset2D<T, Src, Dst> {
     pub fn to_transform3d(&self) -> Transform3D<T, Src, Dst>
         ensures { result ≡ solid_of_scale_offset T.ops self.now }
     {
-        let (zero, one) = (T::zero(), T::one());
-        Transform3D {
-            m11: self.sx,
-            m12: zero,
-            m13: zero,
-            m14: zero,
-            m21: zero,
-            m22: self.sy,
-            m23: zero,
-            m24: zero,
-            m31: zero,
-            m32: zero,
-            m33: one,
-            m34: zero,
-            m41: self.tx,
-            m42: self.ty,
-            m43: zero,
-            m44: one,
-            src: self.src,
-            dst: self.dst,
-        }
+        self.to_transform2d().to_3d()
     }
 }
 

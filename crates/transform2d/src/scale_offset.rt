@@ -86,12 +86,9 @@ impl<T: Scalar, Src: Copy, Dst: Copy> ScaleOffset2D<T, Src, Dst> {
         ensures { result ≡ (let m = self.now in scale_offset m.sx m.sy (T.ops.add m.tx (T.ops.mul v.x m.sx)) (T.ops.add m.ty (T.ops.mul v.y m.sy)) m.src m.dst) }
     {
         ScaleOffset2D {
-            sx: self.sx,
-            sy: self.sy,
             tx: self.tx.add(v.x.mul(self.sx)),
             ty: self.ty.add(v.y.mul(self.sy)),
-            src: self.src,
-            dst: self.dst,
+            ..*self
         }
     }
 
@@ -100,12 +97,9 @@ impl<T: Scalar, Src: Copy, Dst: Copy> ScaleOffset2D<T, Src, Dst> {
         ensures { result ≡ (let m = self.now in scale_offset m.sx m.sy (T.ops.add m.tx v.x) (T.ops.add m.ty v.y) m.src m.dst) }
     {
         ScaleOffset2D {
-            sx: self.sx,
-            sy: self.sy,
             tx: self.tx.add(v.x),
             ty: self.ty.add(v.y),
-            src: self.src,
-            dst: self.dst,
+            ..*self
         }
     }
 
@@ -116,10 +110,7 @@ impl<T: Scalar, Src: Copy, Dst: Copy> ScaleOffset2D<T, Src, Dst> {
         ScaleOffset2D {
             sx: self.sx.mul(sx),
             sy: self.sy.mul(sy),
-            tx: self.tx,
-            ty: self.ty,
-            src: self.src,
-            dst: self.dst,
+            ..*self
         }
     }
 
@@ -132,8 +123,7 @@ impl<T: Scalar, Src: Copy, Dst: Copy> ScaleOffset2D<T, Src, Dst> {
             sy: self.sy.mul(sy),
             tx: self.tx.mul(sx),
             ty: self.ty.mul(sy),
-            src: self.src,
-            dst: self.dst,
+            ..*self
         }
     }
 
@@ -165,6 +155,7 @@ impl<T: Scalar, Src: Copy, Dst: Copy> ScaleOffset2D<T, Src, Dst> {
         })
     }
 
+    // Not `PartialEq`, which would ask every scalar that its equality is symmetric and transitive.
     pub fn eq(&self, other: &ScaleOffset2D<T, Src, Dst>) -> bool
         ensures { result ≡ scale_offset_eq T.ops self.now other.now }
     {
@@ -195,7 +186,7 @@ impl<T: Ordered, Src: Copy, Dst: Copy> ScaleOffset2D<T, Src, Dst> {
 }
 
 impl<T: Copy, Src: Copy, Dst: Copy> ScaleOffset2D<T, Src, Dst> {
-    // The same numbers between other spaces.
+    // The same numbers between other spaces. Each transform has this and its four callers itself: no associated type has parameters, so a trait would be longer, and callers would have to import it.
     fn between<A, B>(&self, src: A, dst: B) -> ScaleOffset2D<T, A, B>
         ensures { result ≡ re_tagged self.now src dst }
     {

@@ -8,7 +8,7 @@ use crate::types::{ScaleOffset2D, Transform2D};
 use geometry::types::{Box2D, Point2D, Rect, Vector2D};
 use geometry::unit::UnknownUnit;
 use scalar::{Ordered, Scalar, Tag};
-use sums::{affine2, cross, dot2};
+use sums::{Row, cross};
 use transform3d::types::Transform3D;
 
 impl<T, Src: Tag, Dst: Tag> Transform2D<T, Src, Dst> {
@@ -38,31 +38,15 @@ impl<T: Scalar, Src: Tag, Dst: Tag> Transform2D<T, Src, Dst> {
     pub fn translation(x: T, y: T) -> Transform2D<T, Src, Dst>
         ensures { result ≡ flat_translation T.ops x y Src.label Dst.label }
     {
-        Transform2D {
-            m11: T::one(),
-            m12: T::zero(),
-            m21: T::zero(),
-            m22: T::one(),
-            m31: x,
-            m32: y,
-            src: Src::tag(),
-            dst: Dst::tag(),
-        }
+        let (zero, one) = (T::zero(), T::one());
+        Transform2D::new(one, zero, zero, one, x, y)
     }
 
     pub fn scale(x: T, y: T) -> Transform2D<T, Src, Dst>
         ensures { result ≡ flat_scale T.ops x y Src.label Dst.label }
     {
-        Transform2D {
-            m11: x,
-            m12: T::zero(),
-            m21: T::zero(),
-            m22: y,
-            m31: T::zero(),
-            m32: T::zero(),
-            src: Src::tag(),
-            dst: Dst::tag(),
-        }
+        let zero = T::zero();
+        Transform2D::new(x, zero, zero, y, zero, zero)
     }
 }
 
@@ -99,13 +83,20 @@ impl<T: Scalar, Src: Copy, Dst: Copy> Transform2D<T, Src, Dst> {
     ) -> Transform2D<T, Src, NewDst>
         ensures { result ≡ flat_then T.ops self.now mat.now }
     {
+        let (a, b, c) = (
+            (self.m11, self.m12),
+            (self.m21, self.m22),
+            (self.m31, self.m32),
+        );
+        let column1 = (mat.m11, mat.m21);
+        let column2 = (mat.m12, mat.m22);
         Transform2D {
-            m11: dot2(self.m11, mat.m11, self.m12, mat.m21),
-            m12: dot2(self.m11, mat.m12, self.m12, mat.m22),
-            m21: dot2(self.m21, mat.m11, self.m22, mat.m21),
-            m22: dot2(self.m21, mat.m12, self.m22, mat.m22),
-            m31: affine2(self.m31, mat.m11, self.m32, mat.m21, mat.m31),
-            m32: affine2(self.m31, mat.m12, self.m32, mat.m22, mat.m32),
+            m11: a.dot(column1),
+            m12: a.dot(column2),
+            m21: b.dot(column1),
+            m22: b.dot(column2),
+            m31: c.affine(column1, mat.m31),
+            m32: c.affine(column2, mat.m32),
             src: self.src,
             dst: mat.dst,
         }
@@ -115,26 +106,14 @@ impl<T: Scalar, Src: Copy, Dst: Copy> Transform2D<T, Src, Dst> {
     pub fn to_3d(&self) -> Transform3D<T, Src, Dst>
         ensures { result ≡ solid_of T.ops self.now }
     {
-        Transform3D {
-            m11: self.m11,
-            m12: self.m12,
-            m13: T::zero(),
-            m14: T::zero(),
-            m21: self.m21,
-            m22: self.m22,
-            m23: T::zero(),
-            m24: T::zero(),
-            m31: T::zero(),
-            m32: T::zero(),
-            m33: T::one(),
-            m34: T::zero(),
-            m41: self.m31,
-            m42: self.m32,
-            m43: T::zero(),
-            m44: T::one(),
-            src: self.src,
-            dst: self.dst,
-        }
+        let (zero, one) = (T::zero(), T::one());
+        let rows = (
+            (self.m11, self.m12, zero, zero),
+            (self.m21, self.m22, zero, zero),
+            (zero, zero, one, zero),
+            (self.m31, self.m32, zero, one),
+        );
+        Transform3D::from_rows(rows, self.src, self.dst)
     }
 
     // A scale, and this transform after it.
@@ -146,13 +125,11 @@ impl<T: Scalar, Src: Copy, Dst: Copy> Transform2D<T, Src, Dst> {
             m12: self.m12.mul(x),
             m21: self.m21.mul(y),
             m22: self.m22.mul(y),
-            m31: self.m31,
-            m32: self.m32,
-            src: self.src,
-            dst: self.dst,
+            ..*self
         }
     }
 
+    // Not `PartialEq`, which would ask every scalar that its equality is symmetric and transitive.
     pub fn eq(&self, other: &Transform2D<T, Src, Dst>) -> bool
         ensures { result ≡ flat_eq T.ops self.now other.now }
     {
@@ -201,9 +178,10 @@ impl<T: Scalar, Src: Copy, Dst: Copy> Transform2D<T, Src, Dst> {
     pub fn transform_point(&self, p: Point2D<T, Src>) -> Point2D<T, Dst>
         ensures { result ≡ flat_point T.ops self.now p }
     {
+        let row = (p.x, p.y);
         Point2D {
-            x: affine2(p.x, self.m11, p.y, self.m21, self.m31),
-            y: affine2(p.x, self.m12, p.y, self.m22, self.m32),
+            x: row.affine((self.m11, self.m21), self.m31),
+            y: row.affine((self.m12, self.m22), self.m32),
             unit: self.dst,
         }
     }
@@ -211,9 +189,10 @@ impl<T: Scalar, Src: Copy, Dst: Copy> Transform2D<T, Src, Dst> {
     pub fn transform_vector(&self, v: Vector2D<T, Src>) -> Vector2D<T, Dst>
         ensures { result ≡ flat_vector T.ops self.now v }
     {
+        let row = (v.x, v.y);
         Vector2D {
-            x: dot2(v.x, self.m11, v.y, self.m21),
-            y: dot2(v.x, self.m12, v.y, self.m22),
+            x: row.dot((self.m11, self.m21)),
+            y: row.dot((self.m12, self.m22)),
             unit: self.dst,
         }
     }
@@ -231,19 +210,16 @@ impl<T: Ordered, Src: Copy, Dst: Copy> Transform2D<T, Src, Dst> {
     pub fn outer_transformed_box(&self, b: &Box2D<T, Src>) -> Box2D<T, Dst>
         ensures { result ≡ flat_box T.ops T.less self.now b.now }
     {
-        let unit = b.min.unit;
         let first = self.transform_point(b.min);
         let mut outer = Box2D::new(first, first);
         outer.grow(self.transform_point(b.max));
         outer.grow(self.transform_point(Point2D {
             x: b.max.x,
-            y: b.min.y,
-            unit,
+            ..b.min
         }));
         outer.grow(self.transform_point(Point2D {
-            x: b.min.x,
             y: b.max.y,
-            unit,
+            ..b.min
         }));
         outer
     }
@@ -271,7 +247,7 @@ impl<T: Copy, Src: Copy, Dst: Copy> Transform2D<T, Src, Dst> {
         }
     }
 
-    // The same numbers between other spaces.
+    // The same numbers between other spaces. Each transform has this and its four callers itself: no associated type has parameters, so a trait would be longer, and callers would have to import it.
     fn between<A, B>(&self, src: A, dst: B) -> Transform2D<T, A, B>
         ensures { result ≡ re_tagged self.now src dst }
     {

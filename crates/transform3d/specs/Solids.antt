@@ -1,7 +1,7 @@
 -- Transforms of space: a row (x, y, z, w) times a matrix of four by four. Assumes nothing.
-use Rattle.std.specs.Prelude.{Bool, cond, not, ◌&&◌, Some, None, Option}
+use Rattle.std.specs.Prelude.{Bool, cond, not, ◌&&◌, Some, None, Option, List, [], ◌∷◌}
 use Rattle.scalar.specs.Ops.{Ops}
-use Rattle.sums.specs.Sums.{dot2, dot3, dot4, eq4, even, odd}
+use Rattle.sums.specs.Sums.{dot, affine, eq4, even, odd}
 use Rattle.geometry.specs.declared.types.Point2D.{Point2D}
 use Rattle.geometry.specs.declared.types.Point3D.{Point3D}
 use Rattle.geometry.specs.declared.types.Vector2D.{Vector2D}
@@ -44,6 +44,48 @@ solid
       src = a;
       dst = b;
     }
+
+-- its rows, and the transform with the given ones
+module _ {S A B : Type 0} where
+  abbrev pub rows_of : Transform3D S A B → (S × S × S × S) × (S × S × S × S) × (S × S × S × S) × (S × S × S × S)
+  rows_of m = (
+    (m.m11, m.m12, m.m13, m.m14),
+    (m.m21, m.m22, m.m23, m.m24),
+    (m.m31, m.m32, m.m33, m.m34),
+    (m.m41, m.m42, m.m43, m.m44),
+  )
+
+  abbrev pub solid_of_rows : (S × S × S × S) × (S × S × S × S) × (S × S × S × S) × (S × S × S × S) → A → B → Transform3D S A B
+  solid_of_rows ((m11, m12, m13, m14), (m21, m22, m23, m24), (m31, m32, m33, m34), (m41, m42, m43, m44)) = solid
+      m11 m12 m13 m14
+      m21 m22 m23 m24
+      m31 m32 m33 m34
+      m41 m42 m43 m44
+
+  -- the entries of each row and each column
+  abbrev pub row1 : Transform3D S A B → List S
+  row1 m = m.m11 ∷ m.m12 ∷ m.m13 ∷ m.m14 ∷ []
+
+  abbrev pub row2 : Transform3D S A B → List S
+  row2 m = m.m21 ∷ m.m22 ∷ m.m23 ∷ m.m24 ∷ []
+
+  abbrev pub row3 : Transform3D S A B → List S
+  row3 m = m.m31 ∷ m.m32 ∷ m.m33 ∷ m.m34 ∷ []
+
+  abbrev pub row4 : Transform3D S A B → List S
+  row4 m = m.m41 ∷ m.m42 ∷ m.m43 ∷ m.m44 ∷ []
+
+  abbrev pub column1 : Transform3D S A B → List S
+  column1 m = m.m11 ∷ m.m21 ∷ m.m31 ∷ m.m41 ∷ []
+
+  abbrev pub column2 : Transform3D S A B → List S
+  column2 m = m.m12 ∷ m.m22 ∷ m.m32 ∷ m.m42 ∷ []
+
+  abbrev pub column3 : Transform3D S A B → List S
+  column3 m = m.m13 ∷ m.m23 ∷ m.m33 ∷ m.m43 ∷ []
+
+  abbrev pub column4 : Transform3D S A B → List S
+  column4 m = m.m14 ∷ m.m24 ∷ m.m34 ∷ m.m44 ∷ []
 
 module _ {S : Type 0} (o : Ops S) where
   open o use {add as ◌⊕◌, sub as ◌⊖◌, mul as ◌⊗◌, neg, div, eq, zero as 𝟘, one as 𝟙}
@@ -97,24 +139,11 @@ module _ {S : Type 0} (o : Ops S) where
 
   -- row i of p times column j of q at each place: p, and q after it
   abbrev pub solid_then : {A B C : Type 0} → Transform3D S A B → Transform3D S B C → Transform3D S A C
-  solid_then p q =
-      solid
-      (dot4 o p.m11 q.m11 p.m12 q.m21 p.m13 q.m31 p.m14 q.m41)
-      (dot4 o p.m11 q.m12 p.m12 q.m22 p.m13 q.m32 p.m14 q.m42)
-      (dot4 o p.m11 q.m13 p.m12 q.m23 p.m13 q.m33 p.m14 q.m43)
-      (dot4 o p.m11 q.m14 p.m12 q.m24 p.m13 q.m34 p.m14 q.m44)
-      (dot4 o p.m21 q.m11 p.m22 q.m21 p.m23 q.m31 p.m24 q.m41)
-      (dot4 o p.m21 q.m12 p.m22 q.m22 p.m23 q.m32 p.m24 q.m42)
-      (dot4 o p.m21 q.m13 p.m22 q.m23 p.m23 q.m33 p.m24 q.m43)
-      (dot4 o p.m21 q.m14 p.m22 q.m24 p.m23 q.m34 p.m24 q.m44)
-      (dot4 o p.m31 q.m11 p.m32 q.m21 p.m33 q.m31 p.m34 q.m41)
-      (dot4 o p.m31 q.m12 p.m32 q.m22 p.m33 q.m32 p.m34 q.m42)
-      (dot4 o p.m31 q.m13 p.m32 q.m23 p.m33 q.m33 p.m34 q.m43)
-      (dot4 o p.m31 q.m14 p.m32 q.m24 p.m33 q.m34 p.m34 q.m44)
-      (dot4 o p.m41 q.m11 p.m42 q.m21 p.m43 q.m31 p.m44 q.m41)
-      (dot4 o p.m41 q.m12 p.m42 q.m22 p.m43 q.m32 p.m44 q.m42)
-      (dot4 o p.m41 q.m13 p.m42 q.m23 p.m43 q.m33 p.m44 q.m43)
-      (dot4 o p.m41 q.m14 p.m42 q.m24 p.m43 q.m34 p.m44 q.m44)
+  solid_then p q = solid
+      (dot o (row1 p) (column1 q)) (dot o (row1 p) (column2 q)) (dot o (row1 p) (column3 q)) (dot o (row1 p) (column4 q))
+      (dot o (row2 p) (column1 q)) (dot o (row2 p) (column2 q)) (dot o (row2 p) (column3 q)) (dot o (row2 p) (column4 q))
+      (dot o (row3 p) (column1 q)) (dot o (row3 p) (column2 q)) (dot o (row3 p) (column3 q)) (dot o (row3 p) (column4 q))
+      (dot o (row4 p) (column1 q)) (dot o (row4 p) (column2 q)) (dot o (row4 p) (column3 q)) (dot o (row4 p) (column4 q))
       p.src q.dst
 
   -- each row times a number of its own
@@ -137,10 +166,10 @@ module _ {S : Type 0} (o : Ops S) where
 
   abbrev pub solid_eq : {A B : Type 0} → Transform3D S A B → Transform3D S A B → Bool
   solid_eq p q =
-      eq4 o p.m11 q.m11 p.m12 q.m12 p.m13 q.m13 p.m14 q.m14
-      && (eq4 o p.m21 q.m21 p.m22 q.m22 p.m23 q.m23 p.m24 q.m24
-      && (eq4 o p.m31 q.m31 p.m32 q.m32 p.m33 q.m33 p.m34 q.m34
-      && (eq4 o p.m41 q.m41 p.m42 q.m42 p.m43 q.m43 p.m44 q.m44)))
+      eq4 o (p.m11, p.m12, p.m13, p.m14) (q.m11, q.m12, q.m13, q.m14)
+      && (eq4 o (p.m21, p.m22, p.m23, p.m24) (q.m21, q.m22, q.m23, q.m24)
+      && (eq4 o (p.m31, p.m32, p.m33, p.m34) (q.m31, q.m32, q.m33, q.m34)
+      && (eq4 o (p.m41, p.m42, p.m43, p.m44) (q.m41, q.m42, q.m43, q.m44))))
 
   -- the third row and the third column are those of the identity, and the fourth column is too
   abbrev pub is_2d : {A B : Type 0} → Transform3D S A B → Bool
@@ -178,22 +207,22 @@ module _ {S : Type 0} (o : Ops S) where
   -- the adjugate: at each place the determinant without that column and that row, with the sign of the place
   abbrev pub solid_adjugate : {A B : Type 0} → Transform3D S A B → Transform3D S B A
   solid_adjugate p = solid
-      (even o p.m22 p.m23 p.m24 p.m32 p.m33 p.m34 p.m42 p.m43 p.m44)
-      (odd o p.m12 p.m13 p.m14 p.m32 p.m33 p.m34 p.m42 p.m43 p.m44)
-      (even o p.m12 p.m13 p.m14 p.m22 p.m23 p.m24 p.m42 p.m43 p.m44)
-      (odd o p.m12 p.m13 p.m14 p.m22 p.m23 p.m24 p.m32 p.m33 p.m34)
-      (odd o p.m21 p.m23 p.m24 p.m31 p.m33 p.m34 p.m41 p.m43 p.m44)
-      (even o p.m11 p.m13 p.m14 p.m31 p.m33 p.m34 p.m41 p.m43 p.m44)
-      (odd o p.m11 p.m13 p.m14 p.m21 p.m23 p.m24 p.m41 p.m43 p.m44)
-      (even o p.m11 p.m13 p.m14 p.m21 p.m23 p.m24 p.m31 p.m33 p.m34)
-      (even o p.m21 p.m22 p.m24 p.m31 p.m32 p.m34 p.m41 p.m42 p.m44)
-      (odd o p.m11 p.m12 p.m14 p.m31 p.m32 p.m34 p.m41 p.m42 p.m44)
-      (even o p.m11 p.m12 p.m14 p.m21 p.m22 p.m24 p.m41 p.m42 p.m44)
-      (odd o p.m11 p.m12 p.m14 p.m21 p.m22 p.m24 p.m31 p.m32 p.m34)
-      (odd o p.m21 p.m22 p.m23 p.m31 p.m32 p.m33 p.m41 p.m42 p.m43)
-      (even o p.m11 p.m12 p.m13 p.m31 p.m32 p.m33 p.m41 p.m42 p.m43)
-      (odd o p.m11 p.m12 p.m13 p.m21 p.m22 p.m23 p.m41 p.m42 p.m43)
-      (even o p.m11 p.m12 p.m13 p.m21 p.m22 p.m23 p.m31 p.m32 p.m33)
+      (even o (p.m22, p.m23, p.m24) (p.m32, p.m33, p.m34) (p.m42, p.m43, p.m44))
+      (odd o (p.m12, p.m13, p.m14) (p.m32, p.m33, p.m34) (p.m42, p.m43, p.m44))
+      (even o (p.m12, p.m13, p.m14) (p.m22, p.m23, p.m24) (p.m42, p.m43, p.m44))
+      (odd o (p.m12, p.m13, p.m14) (p.m22, p.m23, p.m24) (p.m32, p.m33, p.m34))
+      (odd o (p.m21, p.m23, p.m24) (p.m31, p.m33, p.m34) (p.m41, p.m43, p.m44))
+      (even o (p.m11, p.m13, p.m14) (p.m31, p.m33, p.m34) (p.m41, p.m43, p.m44))
+      (odd o (p.m11, p.m13, p.m14) (p.m21, p.m23, p.m24) (p.m41, p.m43, p.m44))
+      (even o (p.m11, p.m13, p.m14) (p.m21, p.m23, p.m24) (p.m31, p.m33, p.m34))
+      (even o (p.m21, p.m22, p.m24) (p.m31, p.m32, p.m34) (p.m41, p.m42, p.m44))
+      (odd o (p.m11, p.m12, p.m14) (p.m31, p.m32, p.m34) (p.m41, p.m42, p.m44))
+      (even o (p.m11, p.m12, p.m14) (p.m21, p.m22, p.m24) (p.m41, p.m42, p.m44))
+      (odd o (p.m11, p.m12, p.m14) (p.m21, p.m22, p.m24) (p.m31, p.m32, p.m34))
+      (odd o (p.m21, p.m22, p.m23) (p.m31, p.m32, p.m33) (p.m41, p.m42, p.m43))
+      (even o (p.m11, p.m12, p.m13) (p.m31, p.m32, p.m33) (p.m41, p.m42, p.m43))
+      (odd o (p.m11, p.m12, p.m13) (p.m21, p.m22, p.m23) (p.m41, p.m42, p.m43))
+      (even o (p.m11, p.m12, p.m13) (p.m21, p.m22, p.m23) (p.m31, p.m32, p.m33))
       p.dst p.src
 
   -- the adjugate times one over the determinant; none where the determinant equals zero
@@ -202,32 +231,32 @@ module _ {S : Type 0} (o : Ops S) where
 
   -- points and vectors as rows: a point of the plane is (x, y, 0, 1), one of space (x, y, z, 1), a vector has w = 0
   abbrev pub image_point2 : {A B : Type 0} → Transform3D S A B → Point2D S A → HomogeneousVector S B
-  image_point2 m p = homogeneous
-      (dot2 o p.x m.m11 p.y m.m21 ⊕ m.m41)
-      (dot2 o p.x m.m12 p.y m.m22 ⊕ m.m42)
-      (dot2 o p.x m.m13 p.y m.m23 ⊕ m.m43)
-      (dot2 o p.x m.m14 p.y m.m24 ⊕ m.m44)
+  image_point2 m p = let row = p.x ∷ p.y ∷ [] in homogeneous
+      (affine o row (m.m11 ∷ m.m21 ∷ []) m.m41)
+      (affine o row (m.m12 ∷ m.m22 ∷ []) m.m42)
+      (affine o row (m.m13 ∷ m.m23 ∷ []) m.m43)
+      (affine o row (m.m14 ∷ m.m24 ∷ []) m.m44)
       m.dst
 
   abbrev pub image_point3 : {A B : Type 0} → Transform3D S A B → Point3D S A → HomogeneousVector S B
-  image_point3 m p = homogeneous
-      (dot3 o p.x m.m11 p.y m.m21 p.z m.m31 ⊕ m.m41)
-      (dot3 o p.x m.m12 p.y m.m22 p.z m.m32 ⊕ m.m42)
-      (dot3 o p.x m.m13 p.y m.m23 p.z m.m33 ⊕ m.m43)
-      (dot3 o p.x m.m14 p.y m.m24 p.z m.m34 ⊕ m.m44)
+  image_point3 m p = let row = p.x ∷ p.y ∷ p.z ∷ [] in homogeneous
+      (affine o row (m.m11 ∷ m.m21 ∷ m.m31 ∷ []) m.m41)
+      (affine o row (m.m12 ∷ m.m22 ∷ m.m32 ∷ []) m.m42)
+      (affine o row (m.m13 ∷ m.m23 ∷ m.m33 ∷ []) m.m43)
+      (affine o row (m.m14 ∷ m.m24 ∷ m.m34 ∷ []) m.m44)
       m.dst
 
   abbrev pub image_vector2 : {A B : Type 0} → Transform3D S A B → Vector2D S A → Vector2D S B
-  image_vector2 m v = vec2
-      (dot2 o v.x m.m11 v.y m.m21)
-      (dot2 o v.x m.m12 v.y m.m22)
+  image_vector2 m v = let row = v.x ∷ v.y ∷ [] in vec2
+      (dot o row (m.m11 ∷ m.m21 ∷ []))
+      (dot o row (m.m12 ∷ m.m22 ∷ []))
       m.dst
 
   abbrev pub image_vector3 : {A B : Type 0} → Transform3D S A B → Vector3D S A → Vector3D S B
-  image_vector3 m v = vec3
-      (dot3 o v.x m.m11 v.y m.m21 v.z m.m31)
-      (dot3 o v.x m.m12 v.y m.m22 v.z m.m32)
-      (dot3 o v.x m.m13 v.y m.m23 v.z m.m33)
+  image_vector3 m v = let row = v.x ∷ v.y ∷ v.z ∷ [] in vec3
+      (dot o row (m.m11 ∷ m.m21 ∷ m.m31 ∷ []))
+      (dot o row (m.m12 ∷ m.m22 ∷ m.m32 ∷ []))
+      (dot o row (m.m13 ∷ m.m23 ∷ m.m33 ∷ []))
       m.dst
 
   -- the transform without its third row and column; where its fourth column is (0, 0, m44) with an m44 that is neither zero nor one, times 1 / m44
@@ -262,17 +291,17 @@ then_some None f = None
 then_some (Some a) f = f a
 
 module _ {S : Type 0} (less : S → S → Bool) (absolute : S → S) where
-  abbrev pub small3 : S → S → S → S → Bool
-  small3 a b c e = less (absolute a) e && (less (absolute b) e && less (absolute c) e)
+  abbrev pub small3 : S × S × S → S → Bool
+  small3 (a, b, c) e = less (absolute a) e && (less (absolute b) e && less (absolute c) e)
 
 module _ {S : Type 0} (o : Ops S) (less : S → S → Bool) where
   -- every entry but the two scales and the two offsets is within e of the identity's
   abbrev pub is_scale_offset : (S → S) → {A B : Type 0} → Transform3D S A B → S → Bool
   is_scale_offset absolute m e =
-      small3 less absolute m.m12 m.m13 m.m14 e
-      && (small3 less absolute m.m21 m.m23 m.m24 e
-      && (small3 less absolute m.m31 m.m32 (o.sub m.m33 o.one) e
-      && small3 less absolute m.m34 m.m43 (o.sub m.m44 o.one) e))
+      small3 less absolute (m.m12, m.m13, m.m14) e
+      && (small3 less absolute (m.m21, m.m23, m.m24) e
+      && (small3 less absolute (m.m31, m.m32, o.sub m.m33 o.one) e
+      && small3 less absolute (m.m34, m.m43, o.sub m.m44 o.one) e))
 
   -- the image of a point of the plane, where its w is above zero
   abbrev pub seen2 : {A B : Type 0} → Transform3D S A B → Point2D S A → Option (Point2D S B)

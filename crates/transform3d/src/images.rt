@@ -8,17 +8,18 @@ use geometry::types::{
     Box2D, Box3D, HomogeneousVector, Point2D, Point3D, Rect, Vector2D, Vector3D,
 };
 use scalar::{Ordered, Scalar};
-use sums::{affine2, affine3, dot2, dot3};
+use sums::Row;
 
 impl<T: Scalar, Src: Copy, Dst: Copy> Transform3D<T, Src, Dst> {
     pub fn transform_point2d_homogeneous(&self, p: Point2D<T, Src>) -> HomogeneousVector<T, Dst>
         ensures { result ≡ image_point2 T.ops self.now p }
     {
+        let row = (p.x, p.y);
         HomogeneousVector {
-            x: affine2(p.x, self.m11, p.y, self.m21, self.m41),
-            y: affine2(p.x, self.m12, p.y, self.m22, self.m42),
-            z: affine2(p.x, self.m13, p.y, self.m23, self.m43),
-            w: affine2(p.x, self.m14, p.y, self.m24, self.m44),
+            x: row.affine((self.m11, self.m21), self.m41),
+            y: row.affine((self.m12, self.m22), self.m42),
+            z: row.affine((self.m13, self.m23), self.m43),
+            w: row.affine((self.m14, self.m24), self.m44),
             unit: self.dst,
         }
     }
@@ -26,11 +27,12 @@ impl<T: Scalar, Src: Copy, Dst: Copy> Transform3D<T, Src, Dst> {
     pub fn transform_point3d_homogeneous(&self, p: Point3D<T, Src>) -> HomogeneousVector<T, Dst>
         ensures { result ≡ image_point3 T.ops self.now p }
     {
+        let row = (p.x, p.y, p.z);
         HomogeneousVector {
-            x: affine3(p.x, self.m11, p.y, self.m21, p.z, self.m31, self.m41),
-            y: affine3(p.x, self.m12, p.y, self.m22, p.z, self.m32, self.m42),
-            z: affine3(p.x, self.m13, p.y, self.m23, p.z, self.m33, self.m43),
-            w: affine3(p.x, self.m14, p.y, self.m24, p.z, self.m34, self.m44),
+            x: row.affine((self.m11, self.m21, self.m31), self.m41),
+            y: row.affine((self.m12, self.m22, self.m32), self.m42),
+            z: row.affine((self.m13, self.m23, self.m33), self.m43),
+            w: row.affine((self.m14, self.m24, self.m34), self.m44),
             unit: self.dst,
         }
     }
@@ -38,9 +40,10 @@ impl<T: Scalar, Src: Copy, Dst: Copy> Transform3D<T, Src, Dst> {
     pub fn transform_vector2d(&self, v: Vector2D<T, Src>) -> Vector2D<T, Dst>
         ensures { result ≡ image_vector2 T.ops self.now v }
     {
+        let row = (v.x, v.y);
         Vector2D {
-            x: dot2(v.x, self.m11, v.y, self.m21),
-            y: dot2(v.x, self.m12, v.y, self.m22),
+            x: row.dot((self.m11, self.m21)),
+            y: row.dot((self.m12, self.m22)),
             unit: self.dst,
         }
     }
@@ -48,10 +51,11 @@ impl<T: Scalar, Src: Copy, Dst: Copy> Transform3D<T, Src, Dst> {
     pub fn transform_vector3d(&self, v: Vector3D<T, Src>) -> Vector3D<T, Dst>
         ensures { result ≡ image_vector3 T.ops self.now v }
     {
+        let row = (v.x, v.y, v.z);
         Vector3D {
-            x: dot3(v.x, self.m11, v.y, self.m21, v.z, self.m31),
-            y: dot3(v.x, self.m12, v.y, self.m22, v.z, self.m32),
-            z: dot3(v.x, self.m13, v.y, self.m23, v.z, self.m33),
+            x: row.dot((self.m11, self.m21, self.m31)),
+            y: row.dot((self.m12, self.m22, self.m32)),
+            z: row.dot((self.m13, self.m23, self.m33)),
             unit: self.dst,
         }
     }
@@ -78,19 +82,16 @@ impl<T: Ordered, Src: Copy, Dst: Copy> Transform3D<T, Src, Dst> {
     pub fn outer_transformed_box2d(&self, b: &Box2D<T, Src>) -> Option<Box2D<T, Dst>>
         ensures { result ≡ outer_box2 T.ops T.less self.now b.now }
     {
-        let unit = b.min.unit;
         let first = self.transform_point2d(b.min)?;
         let mut outer = Box2D::new(first, first);
         outer.grow(self.transform_point2d(b.max)?);
         outer.grow(self.transform_point2d(Point2D {
             x: b.max.x,
-            y: b.min.y,
-            unit,
+            ..b.min
         })?);
         outer.grow(self.transform_point2d(Point2D {
-            x: b.min.x,
             y: b.max.y,
-            unit,
+            ..b.min
         })?);
         Some(outer)
     }
@@ -121,25 +122,9 @@ impl<T: Ordered, Src: Copy, Dst: Copy> Transform3D<T, Src, Dst> {
     ) -> Option<Box3D<T, Dst>>
         ensures { result ≡ edge_taken_in T.ops T.less self.now outer x y b.now }
     {
-        let unit = b.min.unit;
-        let half = self.take_in(
-            outer,
-            Point3D {
-                x,
-                y,
-                z: b.min.z,
-                unit,
-            },
-        )?;
-        self.take_in(
-            half,
-            Point3D {
-                x,
-                y,
-                z: b.max.z,
-                unit,
-            },
-        )
+        let low = Point3D { x, y, ..b.min };
+        let half = self.take_in(outer, low)?;
+        self.take_in(half, Point3D { z: b.max.z, ..low })
     }
 
     // The box of the images of the eight corners, or None unless the w of each is above zero.
@@ -150,10 +135,8 @@ impl<T: Ordered, Src: Copy, Dst: Copy> Transform3D<T, Src, Dst> {
         let outer = self.take_in(
             Box3D::new(first, first),
             Point3D {
-                x: b.min.x,
-                y: b.min.y,
                 z: b.max.z,
-                unit: b.min.unit,
+                ..b.min
             },
         )?;
         let outer = self.take_in_edge(outer, b.min.x, b.max.y, b)?;

@@ -10,25 +10,12 @@ impl<T: Scalar, Src: Copy, Dst: Copy> Transform3D<T, Src, Dst> {
     pub fn determinant(&self) -> T
         ensures { result ≡ solid_det T.ops self.now }
     {
-        let Transform3D {
-            m11,
-            m12,
-            m13,
-            m14,
-            m21,
-            m22,
-            m23,
-            m24,
-            m31,
-            m32,
-            m33,
-            m34,
-            m41,
-            m42,
-            m43,
-            m44,
-            ..
-        } = *self;
+        let (
+            (m11, m12, m13, m14),
+            (m21, m22, m23, m24),
+            (m31, m32, m33, m34),
+            (m41, m42, m43, m44),
+        ) = self.rows();
         let t = prod4(m14, m23, m32, m41);
         let t = less4(t, m13, m24, m32, m41);
         let t = less4(t, m14, m22, m33, m41);
@@ -59,45 +46,31 @@ impl<T: Scalar, Src: Copy, Dst: Copy> Transform3D<T, Src, Dst> {
     fn adjugate(&self) -> Transform3D<T, Dst, Src>
         ensures { result ≡ solid_adjugate T.ops self.now }
     {
-        let Transform3D {
-            m11,
-            m12,
-            m13,
-            m14,
-            m21,
-            m22,
-            m23,
-            m24,
-            m31,
-            m32,
-            m33,
-            m34,
-            m41,
-            m42,
-            m43,
-            m44,
-            src,
-            dst,
-        } = *self;
+        let (
+            (m11, m12, m13, m14),
+            (m21, m22, m23, m24),
+            (m31, m32, m33, m34),
+            (m41, m42, m43, m44),
+        ) = self.rows();
         Transform3D {
-            m11: even(m22, m23, m24, m32, m33, m34, m42, m43, m44),
-            m12: odd(m12, m13, m14, m32, m33, m34, m42, m43, m44),
-            m13: even(m12, m13, m14, m22, m23, m24, m42, m43, m44),
-            m14: odd(m12, m13, m14, m22, m23, m24, m32, m33, m34),
-            m21: odd(m21, m23, m24, m31, m33, m34, m41, m43, m44),
-            m22: even(m11, m13, m14, m31, m33, m34, m41, m43, m44),
-            m23: odd(m11, m13, m14, m21, m23, m24, m41, m43, m44),
-            m24: even(m11, m13, m14, m21, m23, m24, m31, m33, m34),
-            m31: even(m21, m22, m24, m31, m32, m34, m41, m42, m44),
-            m32: odd(m11, m12, m14, m31, m32, m34, m41, m42, m44),
-            m33: even(m11, m12, m14, m21, m22, m24, m41, m42, m44),
-            m34: odd(m11, m12, m14, m21, m22, m24, m31, m32, m34),
-            m41: odd(m21, m22, m23, m31, m32, m33, m41, m42, m43),
-            m42: even(m11, m12, m13, m31, m32, m33, m41, m42, m43),
-            m43: odd(m11, m12, m13, m21, m22, m23, m41, m42, m43),
-            m44: even(m11, m12, m13, m21, m22, m23, m31, m32, m33),
-            src: dst,
-            dst: src,
+            m11: even((m22, m23, m24), (m32, m33, m34), (m42, m43, m44)),
+            m12: odd((m12, m13, m14), (m32, m33, m34), (m42, m43, m44)),
+            m13: even((m12, m13, m14), (m22, m23, m24), (m42, m43, m44)),
+            m14: odd((m12, m13, m14), (m22, m23, m24), (m32, m33, m34)),
+            m21: odd((m21, m23, m24), (m31, m33, m34), (m41, m43, m44)),
+            m22: even((m11, m13, m14), (m31, m33, m34), (m41, m43, m44)),
+            m23: odd((m11, m13, m14), (m21, m23, m24), (m41, m43, m44)),
+            m24: even((m11, m13, m14), (m21, m23, m24), (m31, m33, m34)),
+            m31: even((m21, m22, m24), (m31, m32, m34), (m41, m42, m44)),
+            m32: odd((m11, m12, m14), (m31, m32, m34), (m41, m42, m44)),
+            m33: even((m11, m12, m14), (m21, m22, m24), (m41, m42, m44)),
+            m34: odd((m11, m12, m14), (m21, m22, m24), (m31, m32, m34)),
+            m41: odd((m21, m22, m23), (m31, m32, m33), (m41, m42, m43)),
+            m42: even((m11, m12, m13), (m31, m32, m33), (m41, m42, m43)),
+            m43: odd((m11, m12, m13), (m21, m22, m23), (m41, m42, m43)),
+            m44: even((m11, m12, m13), (m21, m22, m23), (m31, m32, m33)),
+            src: self.dst,
+            dst: self.src,
         }
     }
 
@@ -126,8 +99,9 @@ impl<T: Ordered, Src: Copy, Dst: Copy> Transform3D<T, Src, Dst> {
     {
         let det = self.determinant();
         let m33 = even(
-            self.m11, self.m12, self.m14, self.m21, self.m22, self.m24, self.m41, self.m42,
-            self.m44,
+            (self.m11, self.m12, self.m14),
+            (self.m21, self.m22, self.m24),
+            (self.m41, self.m42, self.m44),
         );
         m33.mul(det).lt(T::zero())
     }

@@ -1,10 +1,57 @@
 // How transforms of space are made, and moved between spaces.
 ghost use Rattle.std.specs.Prelude.{◌≡◌};
-ghost use Rattle.transform3d.specs.Solids.{solid, solid_2d, solid_identity, solid_translation, solid_scale, solid_perspective, solid_ortho, re_tagged};
+ghost use Rattle.transform3d.specs.Solids.{solid, solid_of_rows, rows_of, solid_2d, solid_identity, solid_translation, solid_scale, solid_perspective, solid_ortho, re_tagged};
 
-use crate::types::Transform3D;
+use crate::types::{Rows, Transform3D};
 use geometry::unit::UnknownUnit;
 use scalar::{Scalar, Tag};
+
+impl<T, Src, Dst> Transform3D<T, Src, Dst> {
+    // The transform with these rows, from the space of `src` to that of `dst`.
+    pub fn from_rows(rows: Rows<T>, src: Src, dst: Dst) -> Transform3D<T, Src, Dst>
+        ensures { result ≡ solid_of_rows rows src dst }
+    {
+        let (
+            (m11, m12, m13, m14),
+            (m21, m22, m23, m24),
+            (m31, m32, m33, m34),
+            (m41, m42, m43, m44),
+        ) = rows;
+        Transform3D {
+            m11,
+            m12,
+            m13,
+            m14,
+            m21,
+            m22,
+            m23,
+            m24,
+            m31,
+            m32,
+            m33,
+            m34,
+            m41,
+            m42,
+            m43,
+            m44,
+            src,
+            dst,
+        }
+    }
+}
+
+impl<T: Copy, Src, Dst> Transform3D<T, Src, Dst> {
+    pub(crate) fn rows(&self) -> Rows<T>
+        ensures { result ≡ rows_of self.now }
+    {
+        (
+            (self.m11, self.m12, self.m13, self.m14),
+            (self.m21, self.m22, self.m23, self.m24),
+            (self.m31, self.m32, self.m33, self.m34),
+            (self.m41, self.m42, self.m43, self.m44),
+        )
+    }
+}
 
 impl<T, Src: Tag, Dst: Tag> Transform3D<T, Src, Dst> {
     pub fn new(
@@ -27,26 +74,13 @@ impl<T, Src: Tag, Dst: Tag> Transform3D<T, Src, Dst> {
     ) -> Transform3D<T, Src, Dst>
         ensures { result ≡ solid m11 m12 m13 m14 m21 m22 m23 m24 m31 m32 m33 m34 m41 m42 m43 m44 Src.label Dst.label }
     {
-        Transform3D {
-            m11,
-            m12,
-            m13,
-            m14,
-            m21,
-            m22,
-            m23,
-            m24,
-            m31,
-            m32,
-            m33,
-            m34,
-            m41,
-            m42,
-            m43,
-            m44,
-            src: Src::tag(),
-            dst: Dst::tag(),
-        }
+        let rows = (
+            (m11, m12, m13, m14),
+            (m21, m22, m23, m24),
+            (m31, m32, m33, m34),
+            (m41, m42, m43, m44),
+        );
+        Transform3D::from_rows(rows, Src::tag(), Dst::tag())
     }
 }
 
@@ -56,26 +90,13 @@ impl<T: Scalar, Src: Tag, Dst: Tag> Transform3D<T, Src, Dst> {
         ensures { result ≡ solid_2d T.ops m11 m12 m21 m22 m41 m42 Src.label Dst.label }
     {
         let (zero, one) = (T::zero(), T::one());
-        Transform3D {
-            m11,
-            m12,
-            m13: zero,
-            m14: zero,
-            m21,
-            m22,
-            m23: zero,
-            m24: zero,
-            m31: zero,
-            m32: zero,
-            m33: one,
-            m34: zero,
-            m41,
-            m42,
-            m43: zero,
-            m44: one,
-            src: Src::tag(),
-            dst: Dst::tag(),
-        }
+        let rows = (
+            (m11, m12, zero, zero),
+            (m21, m22, zero, zero),
+            (zero, zero, one, zero),
+            (m41, m42, zero, one),
+        );
+        Transform3D::from_rows(rows, Src::tag(), Dst::tag())
     }
 
     pub fn identity() -> Transform3D<T, Src, Dst>
@@ -88,52 +109,26 @@ impl<T: Scalar, Src: Tag, Dst: Tag> Transform3D<T, Src, Dst> {
         ensures { result ≡ solid_translation T.ops x y z Src.label Dst.label }
     {
         let (zero, one) = (T::zero(), T::one());
-        Transform3D {
-            m11: one,
-            m12: zero,
-            m13: zero,
-            m14: zero,
-            m21: zero,
-            m22: one,
-            m23: zero,
-            m24: zero,
-            m31: zero,
-            m32: zero,
-            m33: one,
-            m34: zero,
-            m41: x,
-            m42: y,
-            m43: z,
-            m44: one,
-            src: Src::tag(),
-            dst: Dst::tag(),
-        }
+        let rows = (
+            (one, zero, zero, zero),
+            (zero, one, zero, zero),
+            (zero, zero, one, zero),
+            (x, y, z, one),
+        );
+        Transform3D::from_rows(rows, Src::tag(), Dst::tag())
     }
 
     pub fn scale(x: T, y: T, z: T) -> Transform3D<T, Src, Dst>
         ensures { result ≡ solid_scale T.ops x y z Src.label Dst.label }
     {
         let (zero, one) = (T::zero(), T::one());
-        Transform3D {
-            m11: x,
-            m12: zero,
-            m13: zero,
-            m14: zero,
-            m21: zero,
-            m22: y,
-            m23: zero,
-            m24: zero,
-            m31: zero,
-            m32: zero,
-            m33: z,
-            m34: zero,
-            m41: zero,
-            m42: zero,
-            m43: zero,
-            m44: one,
-            src: Src::tag(),
-            dst: Dst::tag(),
-        }
+        let rows = (
+            (x, zero, zero, zero),
+            (zero, y, zero, zero),
+            (zero, zero, z, zero),
+            (zero, zero, zero, one),
+        );
+        Transform3D::from_rows(rows, Src::tag(), Dst::tag())
     }
 
     // The view from the distance `d` above the plane z = 0, which stays where it is.
@@ -141,85 +136,43 @@ impl<T: Scalar, Src: Tag, Dst: Tag> Transform3D<T, Src, Dst> {
         ensures { result ≡ solid_perspective T.ops d Src.label Dst.label }
     {
         let (zero, one) = (T::zero(), T::one());
-        Transform3D {
-            m11: one,
-            m12: zero,
-            m13: zero,
-            m14: zero,
-            m21: zero,
-            m22: one,
-            m23: zero,
-            m24: zero,
-            m31: zero,
-            m32: zero,
-            m33: one,
-            m34: one.neg().div(d),
-            m41: zero,
-            m42: zero,
-            m43: zero,
-            m44: one,
-            src: Src::tag(),
-            dst: Dst::tag(),
-        }
+        let rows = (
+            (one, zero, zero, zero),
+            (zero, one, zero, zero),
+            (zero, zero, one, one.neg().div(d)),
+            (zero, zero, zero, one),
+        );
+        Transform3D::from_rows(rows, Src::tag(), Dst::tag())
     }
 
     // The view without perspective of the box between the given sides.
     pub fn ortho(left: T, right: T, bottom: T, top: T, near: T, far: T) -> Transform3D<T, Src, Dst>
         ensures { result ≡ solid_ortho T.ops left right bottom top near far Src.label Dst.label }
     {
-        let two = T::one().add(T::one());
+        let (zero, one) = (T::zero(), T::one());
+        let two = one.add(one);
         let tx = right.add(left).div(right.sub(left)).neg();
         let ty = top.add(bottom).div(top.sub(bottom)).neg();
         let tz = far.add(near).div(far.sub(near)).neg();
-        let (zero, one) = (T::zero(), T::one());
-        Transform3D {
-            m11: two.div(right.sub(left)),
-            m12: zero,
-            m13: zero,
-            m14: zero,
-            m21: zero,
-            m22: two.div(top.sub(bottom)),
-            m23: zero,
-            m24: zero,
-            m31: zero,
-            m32: zero,
-            m33: two.neg().div(far.sub(near)),
-            m34: zero,
-            m41: tx,
-            m42: ty,
-            m43: tz,
-            m44: one,
-            src: Src::tag(),
-            dst: Dst::tag(),
-        }
+        let sx = two.div(right.sub(left));
+        let sy = two.div(top.sub(bottom));
+        let sz = two.neg().div(far.sub(near));
+        let rows = (
+            (sx, zero, zero, zero),
+            (zero, sy, zero, zero),
+            (zero, zero, sz, zero),
+            (tx, ty, tz, one),
+        );
+        Transform3D::from_rows(rows, Src::tag(), Dst::tag())
     }
 }
 
 impl<T: Copy, Src: Copy, Dst: Copy> Transform3D<T, Src, Dst> {
-    // The same numbers between other spaces.
+    // The same numbers between other spaces. Each transform has this and its four callers itself: no associated type has parameters, so a trait would be longer, and callers would have to import it.
     fn between<A, B>(&self, src: A, dst: B) -> Transform3D<T, A, B>
         ensures { result ≡ re_tagged self.now src dst }
     {
-        Transform3D {
-            m11: self.m11,
-            m12: self.m12,
-            m13: self.m13,
-            m14: self.m14,
-            m21: self.m21,
-            m22: self.m22,
-            m23: self.m23,
-            m24: self.m24,
-            m31: self.m31,
-            m32: self.m32,
-            m33: self.m33,
-            m34: self.m34,
-            m41: self.m41,
-            m42: self.m42,
-            m43: self.m43,
-            m44: self.m44,
-            src,
-            dst,
-        }
+        Transform3D::from_rows(self.rows(), src, dst)
     }
 
     pub fn with_source<NewSrc: Tag>(&self) -> Transform3D<T, NewSrc, Dst>

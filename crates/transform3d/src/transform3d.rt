@@ -1,12 +1,12 @@
 // Products of transforms of space, and questions about them.
-ghost use Rattle.std.specs.Prelude.{◌≡◌};
-ghost use Rattle.sums.specs.Sums.{dot4 as dot4_of};
-ghost use Rattle.transform3d.specs.Solids.{solid_translation, solid_scale, solid_then, solid_pre_scale, solid_times, solid_eq, is_2d, flattened, small3 as small3_of, is_scale_offset};
+ghost use Rattle.std.specs.Prelude.{◌≡◌, ◌∷◌, []};
+ghost use Rattle.sums.specs.Sums.{dot as dot_of};
+ghost use Rattle.transform3d.specs.Solids.{column1, column2, column3, column4, solid_translation, solid_scale, solid_then, solid_pre_scale, solid_times, solid_eq, is_2d, flattened, small3 as small3_of, is_scale_offset};
 
 use crate::types::Transform3D;
 use geometry::types::Vector3D;
 use scalar::{Ordered, Scalar, Tag};
-use sums::{dot4, eq4};
+use sums::{Row, Row3, Row4, eq4};
 
 impl<T: Scalar, Src: Tag, Dst: Copy> Transform3D<T, Src, Dst> {
     // A translation by `v`, and this transform after it.
@@ -34,21 +34,30 @@ impl<T: Scalar, Src: Copy, Dst: Tag> Transform3D<T, Src, Dst> {
 }
 
 // The row (a1, a2, a3, a4) times the columns of `m`.
+// Not a row, which was tried: LLVM then no longer sees the zeros and ones of a translation, and `pre_translate` over Residue runs 1.8 times as many instructions.
 fn row_times<T: Scalar, Src: Copy, Dst: Copy>(
     a1: T,
     a2: T,
     a3: T,
     a4: T,
     m: &Transform3D<T, Src, Dst>,
-) -> (T, T, T, T)
-    ensures { result ≡ (let q = m.now in (dot4_of T.ops a1 q.m11 a2 q.m21 a3 q.m31 a4 q.m41, dot4_of T.ops a1 q.m12 a2 q.m22 a3 q.m32 a4 q.m42, dot4_of T.ops a1 q.m13 a2 q.m23 a3 q.m33 a4 q.m43, dot4_of T.ops a1 q.m14 a2 q.m24 a3 q.m34 a4 q.m44)) }
+) -> Row4<T>
+    ensures { result ≡ (let r = a1 ∷ a2 ∷ a3 ∷ a4 ∷ [] in let q = m.now in (dot_of T.ops r (column1 q), dot_of T.ops r (column2 q), dot_of T.ops r (column3 q), dot_of T.ops r (column4 q))) }
 {
+    let row = (a1, a2, a3, a4);
     (
-        dot4(a1, m.m11, a2, m.m21, a3, m.m31, a4, m.m41),
-        dot4(a1, m.m12, a2, m.m22, a3, m.m32, a4, m.m42),
-        dot4(a1, m.m13, a2, m.m23, a3, m.m33, a4, m.m43),
-        dot4(a1, m.m14, a2, m.m24, a3, m.m34, a4, m.m44),
+        row.dot((m.m11, m.m21, m.m31, m.m41)),
+        row.dot((m.m12, m.m22, m.m32, m.m42)),
+        row.dot((m.m13, m.m23, m.m33, m.m43)),
+        row.dot((m.m14, m.m24, m.m34, m.m44)),
     )
+}
+
+// Each entry of a row times `x`.
+fn scaled<T: Scalar>(row: Row4<T>, x: T) -> Row4<T>
+    ensures { result ≡ (T.ops.mul row.0 x, T.ops.mul row.1 x, T.ops.mul row.2 x, T.ops.mul row.3 x) }
+{
+    (row.0.mul(x), row.1.mul(x), row.2.mul(x), row.3.mul(x))
 }
 
 impl<T: Scalar, Src: Copy, Dst: Copy> Transform3D<T, Src, Dst> {
@@ -59,96 +68,40 @@ impl<T: Scalar, Src: Copy, Dst: Copy> Transform3D<T, Src, Dst> {
     ) -> Transform3D<T, Src, NewDst>
         ensures { result ≡ solid_then T.ops self.now other.now }
     {
-        let (m11, m12, m13, m14) = row_times(self.m11, self.m12, self.m13, self.m14, other);
-        let (m21, m22, m23, m24) = row_times(self.m21, self.m22, self.m23, self.m24, other);
-        let (m31, m32, m33, m34) = row_times(self.m31, self.m32, self.m33, self.m34, other);
-        let (m41, m42, m43, m44) = row_times(self.m41, self.m42, self.m43, self.m44, other);
-        Transform3D {
-            m11,
-            m12,
-            m13,
-            m14,
-            m21,
-            m22,
-            m23,
-            m24,
-            m31,
-            m32,
-            m33,
-            m34,
-            m41,
-            m42,
-            m43,
-            m44,
-            src: self.src,
-            dst: other.dst,
-        }
+        let rows = (
+            row_times(self.m11, self.m12, self.m13, self.m14, other),
+            row_times(self.m21, self.m22, self.m23, self.m24, other),
+            row_times(self.m31, self.m32, self.m33, self.m34, other),
+            row_times(self.m41, self.m42, self.m43, self.m44, other),
+        );
+        Transform3D::from_rows(rows, self.src, other.dst)
     }
 
     // A scale, and this transform after it.
     pub fn pre_scale(&self, x: T, y: T, z: T) -> Transform3D<T, Src, Dst>
         ensures { result ≡ solid_pre_scale T.ops self.now x y z }
     {
-        Transform3D {
-            m11: self.m11.mul(x),
-            m12: self.m12.mul(x),
-            m13: self.m13.mul(x),
-            m14: self.m14.mul(x),
-            m21: self.m21.mul(y),
-            m22: self.m22.mul(y),
-            m23: self.m23.mul(y),
-            m24: self.m24.mul(y),
-            m31: self.m31.mul(z),
-            m32: self.m32.mul(z),
-            m33: self.m33.mul(z),
-            m34: self.m34.mul(z),
-            m41: self.m41,
-            m42: self.m42,
-            m43: self.m43,
-            m44: self.m44,
-            src: self.src,
-            dst: self.dst,
-        }
+        let (a, b, c, d) = self.rows();
+        let rows = (scaled(a, x), scaled(b, y), scaled(c, z), d);
+        Transform3D::from_rows(rows, self.src, self.dst)
     }
 
     // Every entry times `x`.
     pub fn mul_s(&self, x: T) -> Transform3D<T, Src, Dst>
         ensures { result ≡ solid_times T.ops self.now x }
     {
-        Transform3D {
-            m11: self.m11.mul(x),
-            m12: self.m12.mul(x),
-            m13: self.m13.mul(x),
-            m14: self.m14.mul(x),
-            m21: self.m21.mul(x),
-            m22: self.m22.mul(x),
-            m23: self.m23.mul(x),
-            m24: self.m24.mul(x),
-            m31: self.m31.mul(x),
-            m32: self.m32.mul(x),
-            m33: self.m33.mul(x),
-            m34: self.m34.mul(x),
-            m41: self.m41.mul(x),
-            m42: self.m42.mul(x),
-            m43: self.m43.mul(x),
-            m44: self.m44.mul(x),
-            src: self.src,
-            dst: self.dst,
-        }
+        let (a, b, c, d) = self.rows();
+        let rows = (scaled(a, x), scaled(b, x), scaled(c, x), scaled(d, x));
+        Transform3D::from_rows(rows, self.src, self.dst)
     }
 
+    // Not `PartialEq`, which would ask every scalar that its equality is symmetric and transitive.
     pub fn eq(&self, other: &Transform3D<T, Src, Dst>) -> bool
         ensures { result ≡ solid_eq T.ops self.now other.now }
     {
-        eq4(
-            self.m11, other.m11, self.m12, other.m12, self.m13, other.m13, self.m14, other.m14,
-        ) && eq4(
-            self.m21, other.m21, self.m22, other.m22, self.m23, other.m23, self.m24, other.m24,
-        ) && eq4(
-            self.m31, other.m31, self.m32, other.m32, self.m33, other.m33, self.m34, other.m34,
-        ) && eq4(
-            self.m41, other.m41, self.m42, other.m42, self.m43, other.m43, self.m44, other.m44,
-        )
+        let (a1, a2, a3, a4) = self.rows();
+        let (b1, b2, b3, b4) = other.rows();
+        eq4(a1, b1) && eq4(a2, b2) && eq4(a3, b3) && eq4(a4, b4)
     }
 
     // Whether this is a transform of the plane.
@@ -198,10 +151,10 @@ impl<T: Scalar, Src: Copy, Dst: Copy> Transform3D<T, Src, Dst> {
 }
 
 // Whether the absolute values of three numbers are below `epsilon`.
-fn small3<T: Ordered>(a: T, b: T, c: T, epsilon: T) -> bool
-    ensures { result ≡ small3_of T.less T.absolute a b c epsilon }
+fn small3<T: Ordered>(row: Row3<T>, epsilon: T) -> bool
+    ensures { result ≡ small3_of T.less T.absolute row epsilon }
 {
-    a.abs().lt(epsilon) && b.abs().lt(epsilon) && c.abs().lt(epsilon)
+    row.0.abs().lt(epsilon) && row.1.abs().lt(epsilon) && row.2.abs().lt(epsilon)
 }
 
 impl<T: Ordered, Src: Copy, Dst: Copy> Transform3D<T, Src, Dst> {
@@ -209,9 +162,9 @@ impl<T: Ordered, Src: Copy, Dst: Copy> Transform3D<T, Src, Dst> {
     pub fn is_scale_offset_2d_eps(&self, epsilon: T) -> bool
         ensures { result ≡ is_scale_offset T.ops T.less T.absolute self.now epsilon }
     {
-        small3(self.m12, self.m13, self.m14, epsilon)
-            && small3(self.m21, self.m23, self.m24, epsilon)
-            && small3(self.m31, self.m32, self.m33.sub(T::one()), epsilon)
-            && small3(self.m34, self.m43, self.m44.sub(T::one()), epsilon)
+        small3((self.m12, self.m13, self.m14), epsilon)
+            && small3((self.m21, self.m23, self.m24), epsilon)
+            && small3((self.m31, self.m32, self.m33.sub(T::one())), epsilon)
+            && small3((self.m34, self.m43, self.m44.sub(T::one())), epsilon)
     }
 }

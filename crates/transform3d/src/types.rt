@@ -1,5 +1,10 @@
 // A transform of space, by its fields. `src` and `dst` hold the one value of the space that is left and of the one that is reached.
 
+use sums::Row4;
+
+// The four rows of a matrix of four by four.
+pub type Rows<T> = (Row4<T>, Row4<T>, Row4<T>, Row4<T>);
+
 // A row (x, y, z, w) times this matrix of four by four.
 #[derive(Clone, Copy)]
 pub struct Transform3D<T, Src, Dst> {
