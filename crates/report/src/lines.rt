@@ -73,7 +73,7 @@ impl Page {
     // A line of numbers.
     fn put_number_line<S: Shown>(&mut self, word: &str, i: usize, fs: &[Fraction])
         requires { length word.now + 21 + 12 * length fs.now ≤ self.old.room }
-        ensures { Adds self.old self.new (line word.now i (numbers_text S.Shown.value fs.now))
+        ensures { Adds self.old self.new (line word.now i (numbers_text S.value fs.now))
             (length word.now + 21 + 12 * length fs.now) }
     {
         self.put_head(word, i);
@@ -83,8 +83,8 @@ impl Page {
 
     // A line for each item.
     pub fn put_lines<L: Line>(&mut self, items: &[L])
-        requires { L.Line.width * length items.now ≤ self.old.room }
-        ensures { Adds self.old self.new (lines L.Line.text 0 items.now) (L.Line.width * length items.now) }
+        requires { L.width * length items.now ≤ self.old.room }
+        ensures { Adds self.old self.new (lines L.text 0 items.now) (L.width * length items.now) }
     {
         for (i, item) in items.iter().enumerate() {
             item.put_line(self, i);

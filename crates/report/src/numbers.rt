@@ -37,7 +37,7 @@ impl Page {
     // The numbers, with a blank before each.
     pub fn put_numbers<S: Shown>(&mut self, fs: &[Fraction])
         requires { 12 * length fs.now ≤ self.old.room }
-        ensures { Adds self.old self.new (numbers_text S.Shown.value fs.now) (12 * length fs.now) }
+        ensures { Adds self.old self.new (numbers_text S.value fs.now) (12 * length fs.now) }
     {
         for f in fs {
             self.put(" ");
