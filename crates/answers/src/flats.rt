@@ -1,73 +1,78 @@
-// The functions of Transform2D.
-use crate::number::Number;
-use crate::refusal::{Fault, Refusal};
-use crate::shapes::{Answer, Numbers, Shape, Supply};
+// Transform2D: its numbers, and the functions that can be asked about.
+use crate::number::Orderable;
+use crate::question::Question;
+use crate::refusal::Fault;
+use crate::shapes::{Answer, Pairs, Row, Shape};
 use crate::table::Asked;
-use geometry::types::{Point2D, Vector2D};
-use geometry::unit::UnknownUnit;
+use geometry::types::{Box2D, Point2D, Rect, Vector2D};
+use scalar::Tag;
 use spaces::{Beam, Camera, Hide};
 use transform2d::types::{ScaleOffset2D, Transform2D};
 
-type Flat<T> = Transform2D<T, Camera, Hide>;
+pub type Flat<T> = Transform2D<T, Camera, Hide>;
 
-type Untyped<T> = Transform2D<T, UnknownUnit, UnknownUnit>;
+impl<T: Orderable, Src: Tag, Dst: Tag> Shape<T> for Transform2D<T, Src, Dst> {
+    type Fields = Pairs<T>;
 
-impl<T: Number> Asked<T> for Transform2D<T, Camera, Hide> {
-    fn ask(function: &str, numbers: &mut Numbers<'_, T>, line: &mut String) -> Result<(), Fault> {
-        match function {
-            "new" => Flat::<T>::taken(numbers)?.say(line),
-            "identity" => Flat::<T>::identity().say(line),
-            "translation" => Flat::<T>::translation(numbers.number()?, numbers.number()?).say(line),
-            "scale" => Flat::<T>::scale(numbers.number()?, numbers.number()?).say(line),
-            "to_untyped" => Flat::<T>::taken(numbers)?.to_untyped().say(line),
-            "from_untyped" => Flat::<T>::from_untyped(&Untyped::<T>::taken(numbers)?).say(line),
-            "with_source" => Flat::<T>::taken(numbers)?.with_source::<Beam>().say(line),
-            "with_destination" => Flat::<T>::taken(numbers)?
-                .with_destination::<Beam>()
-                .say(line),
-            "to_3d" => Flat::<T>::taken(numbers)?.to_3d().say(line),
-            "to_scale_offset" => Flat::<T>::taken(numbers)?.to_scale_offset().say(line),
-            "from_ScaleOffset2D" => Flat::<T>::from(ScaleOffset2D::<T, Camera, Hide>::taken(
-                numbers,
-            )?).say(line),
-            _ => ask_more(function, numbers, line),
+    fn from_fields(((m11, m12), (m21, m22), (m31, m32)): Pairs<T>) -> Self {
+        Transform2D::new(m11, m12, m21, m22, m31, m32)
+    }
+
+    fn fields(self) -> Pairs<T> {
+        (
+            (self.m11, self.m12),
+            (self.m21, self.m22),
+            (self.m31, self.m32),
+        )
+    }
+
+    fn same(&self, other: &Self) -> bool {
+        self.eq(other)
+    }
+}
+
+impl<T: Orderable> Asked<T> for Transform2D<T, Camera, Hide> {
+    fn ask(q: &mut Question<'_, T>) -> Result<(), Fault> {
+        match q.function {
+            "identity" => Self::identity().say(q),
+            "translation" => Self::translation(q.number()?, q.number()?).say(q),
+            "scale" => Self::scale(q.number()?, q.number()?).say(q),
+            "from_ScaleOffset2D" => Self::from(ScaleOffset2D::of(q)?).say(q),
+            "from_untyped" => Self::from_untyped(&Transform2D::of(q)?).say(q),
+            "to_untyped" => Self::of(q)?.to_untyped().say(q),
+            "with_source" => Self::of(q)?.with_source::<Beam>().say(q),
+            "with_destination" => Self::of(q)?.with_destination::<Beam>().say(q),
+            "to_3d" => Self::of(q)?.to_3d().say(q),
+            "to_scale_offset" => Self::of(q)?.to_scale_offset().say(q),
+            _ => ask_more(q),
         }
     }
 }
 
-fn ask_more<T: Number>(
-    function: &str,
-    numbers: &mut Numbers<'_, T>,
-    line: &mut String,
-) -> Result<(), Fault> {
-    match function {
-        "eq" => Flat::<T>::taken(numbers)?
-            .eq(&Flat::<T>::taken(numbers)?)
-            .say(line),
-        "then" => Flat::<T>::taken(numbers)?
-            .then(&Transform2D::<T, Hide, Beam>::taken(numbers)?)
-            .say(line),
-        "then_translate" => Flat::<T>::taken(numbers)?
-            .then_translate(Vector2D::taken(numbers)?)
-            .say(line),
-        "pre_translate" => Flat::<T>::taken(numbers)?
-            .pre_translate(Vector2D::taken(numbers)?)
-            .say(line),
-        "then_scale" => Flat::<T>::taken(numbers)?
-            .then_scale(numbers.number()?, numbers.number()?)
-            .say(line),
-        "pre_scale" => Flat::<T>::taken(numbers)?
-            .pre_scale(numbers.number()?, numbers.number()?)
-            .say(line),
-        "transform_point" => Flat::<T>::taken(numbers)?
-            .transform_point(Point2D::taken(numbers)?)
-            .say(line),
-        "transform_vector" => Flat::<T>::taken(numbers)?
-            .transform_vector(Vector2D::taken(numbers)?)
-            .say(line),
-        "determinant" => Flat::<T>::taken(numbers)?.determinant().write(line),
-        "is_invertible" => Flat::<T>::taken(numbers)?.is_invertible().say(line),
-        "inverse" => Flat::<T>::taken(numbers)?.inverse().say(line),
-        _ => Err(Refusal::UnknownFunction.into()),
+fn ask_more<T: Orderable>(q: &mut Question<'_, T>) -> Result<(), Fault> {
+    match q.function {
+        "then" => Flat::of(q)?.then::<Beam>(&Transform2D::of(q)?).say(q),
+        "then_translate" => Flat::of(q)?.then_translate(Vector2D::of(q)?).say(q),
+        "pre_translate" => Flat::of(q)?.pre_translate(Vector2D::of(q)?).say(q),
+        "then_scale" => Flat::of(q)?.then_scale(q.number()?, q.number()?).say(q),
+        "pre_scale" => Flat::of(q)?.pre_scale(q.number()?, q.number()?).say(q),
+        "transform_point" => Flat::of(q)?.transform_point(Point2D::of(q)?).say(q),
+        "transform_vector" => Flat::of(q)?.transform_vector(Vector2D::of(q)?).say(q),
+        "determinant" => Flat::of(q)?.determinant().say(q),
+        "is_invertible" => Flat::of(q)?.is_invertible().say(q),
+        "inverse" => Flat::of(q)?.inverse().say(q),
+        "is_scale_offset_eps" => {
+            let q = T::ordered(q)?;
+            Flat::of(q)?.is_scale_offset_eps(q.number()?).say(q)
+        }
+        "outer_transformed_rect" => {
+            let q = T::ordered(q)?;
+            Flat::of(q)?.outer_transformed_rect(&Rect::of(q)?).say(q)
+        }
+        "outer_transformed_box" => {
+            let q = T::ordered(q)?;
+            Flat::of(q)?.outer_transformed_box(&Box2D::of(q)?).say(q)
+        }
+        _ => Flat::ask_any(q),
     }
 }

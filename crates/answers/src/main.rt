@@ -4,8 +4,8 @@
 
 mod flats;
 mod number;
-mod ordered;
 mod places;
+mod question;
 mod rects;
 mod refusal;
 mod scalings;
@@ -13,73 +13,65 @@ mod shapes;
 mod solids;
 mod table;
 
+use number::Orderable;
 use numbers::types::{Count, Real};
-use ordered::Orderable;
 use pixels::types::{Pixel, Whole};
+use question::Question;
 use refusal::{Fault, Refusal};
 use residues::types::Residue;
 use std::alloc::Global;
 use std::io;
 use std::io::{BufRead, BufReader, BufWriter, Write};
 use std::str::{SplitAsciiWhitespace, from_utf8};
-use table::Answering;
 
-// Adds the answer to the line; its numbers are the words that are left.
-fn ask_over<T: Orderable>(
-    function: &str,
-    words: SplitAsciiWhitespace<'_>,
-    heap: Global,
-    line: &mut String,
-) -> Result<(), Fault> {
-    let mut all = Vec::new(heap);
-    for word in words {
-        match T::read(word) {
-            Some(number) => all.push(number)?,
-            None => return Err(Refusal::BadNumber.into()),
-        }
-    }
-    let mut numbers = all.as_slice().iter();
-    T::answer(function, heap, &mut numbers, line)?;
-    match numbers.next() {
-        Some(_) => Err(Refusal::TooManyNumbers.into()),
-        None => Ok(()),
-    }
-}
-
-fn ask(question: &[u8], heap: Global, line: &mut String) -> Result<(), Fault> {
-    let Ok(text) = from_utf8(question) else {
-        return Err(Refusal::NotText.into());
-    };
+fn answer(question: &[u8], heap: Global) -> Result<String, Fault> {
+    let text = from_utf8(question).map_err(|_| Refusal::NotText)?;
     let mut words = text.split_ascii_whitespace();
     let (Some(scalar), Some(function)) = (words.next(), words.next()) else {
         return Err(Refusal::ShortLine.into());
     };
     match scalar {
-        "Real" => ask_over::<Real>(function, words, heap, line),
-        "Count" => ask_over::<Count>(function, words, heap, line),
-        "Residue" => ask_over::<Residue>(function, words, heap, line),
-        "Pixel" => ask_over::<Pixel>(function, words, heap, line),
-        "Whole" => ask_over::<Whole>(function, words, heap, line),
+        "Real" => answer_over::<Real>(function, words, heap),
+        "Count" => answer_over::<Count>(function, words, heap),
+        "Residue" => answer_over::<Residue>(function, words, heap),
+        "Pixel" => answer_over::<Pixel>(function, words, heap),
+        "Whole" => answer_over::<Whole>(function, words, heap),
         _ => Err(Refusal::UnknownScalar.into()),
+    }
+}
+
+// The words are the numbers.
+fn answer_over<T: Orderable>(
+    function: &str,
+    words: SplitAsciiWhitespace<'_>,
+    heap: Global,
+) -> Result<String, Fault> {
+    let mut numbers = Vec::with_capacity(heap, 32)?;
+    for word in words {
+        numbers.push(T::read(word).ok_or(Refusal::BadNumber)?)?;
+    }
+    let mut question = Question {
+        function,
+        numbers: numbers.as_slice(),
+        answer: String::with_capacity(heap, 300)?,
+    };
+    table::ask(&mut question)?;
+    if question.numbers.is_empty() {
+        Ok(question.answer)
+    } else {
+        Err(Refusal::TooManyNumbers.into())
     }
 }
 
 fn main(rt: HostRuntime) -> io::Result<()> {
     let heap = rt.alloc();
-    let mut input = BufReader::new(heap, rt.stdin())?;
+    let input = BufReader::new(heap, rt.stdin())?;
     let mut output = BufWriter::new(heap, rt.stdout())?;
-    let mut question: Vec<u8> = Vec::new(heap);
-    let mut line = String::new(heap);
-    for _ in 0..u64::MAX {
-        question.clear();
-        line.clear();
-        if input.read_until(b'\n', &mut question)? == 0 {
-            break;
-        }
-        match ask(question.as_slice(), heap, &mut line) {
-            Ok(()) => writeln!(output, "{line}")?,
+    for question in input.split(heap, b'\n') {
+        match answer(question?.as_slice(), heap) {
+            Ok(answer) => writeln!(output, "{answer}")?,
             Err(Fault::Refused(refusal)) => writeln!(output, "{refusal}")?,
-            Err(Fault::Memory) => return Err(io::ErrorKind::OutOfMemory.into()),
+            Err(Fault::Memory(e)) => return Err(e.into()),
         }
     }
     output.flush()

@@ -1,9 +1,11 @@
 // The five scalars as words: how each is read and written.
-use crate::refusal::Fault;
+use crate::question::Question;
+use crate::refusal::Refusal;
 use numbers::types::{Count, Real};
 use pixels::types::{Pixel, Whole};
 use residues::types::Residue;
-use scalar::Scalar;
+use scalar::{Ordered, Scalar};
+use std::alloc::AllocError;
 use std::fmt::Write;
 use std::num::{f64_from_bits_with_nan, f64_to_bits_with_nan};
 
@@ -11,89 +13,119 @@ pub trait Number: Scalar {
     // None where the word is no number of this scalar.
     fn read(word: &str) -> Option<Self>;
 
-    fn write(self, line: &mut String) -> Result<(), Fault>;
+    fn write(self, line: &mut String) -> Result<(), AllocError>;
 }
 
-// Adds a blank, but at the start of the line.
-fn space(line: &mut String) -> Result<(), Fault> {
-    if !line.is_empty() {
-        line.push(' ')?;
-    }
-    Ok(())
-}
-
-fn write_integer(value: i32, line: &mut String) -> Result<(), Fault> {
-    space(line)?;
-    write!(line, "{value}")?;
-    Ok(())
-}
-
-fn integer(word: &str) -> Option<i32> {
-    word.parse::<i32>().ok()
-}
-
-// The number that at most 16 hexadecimal digits stand for.
-fn hexadecimal(word: &str) -> Option<u64> {
-    if word.is_empty() || word.len() > 16 || word.starts_with('+') {
-        return None;
-    }
-    u64::from_str_radix(word, 16).ok()
-}
-
+// A Real is written as the bits of its float.
 impl Number for Real {
-    // A float is written by its bits.
     fn read(word: &str) -> Option<Real> {
+        if word.len() > 16 || word.starts_with('+') {
+            return None;
+        }
+        let bits = u64::from_str_radix(word, 16).ok()?;
         Some(Real {
-            value: f64_from_bits_with_nan(hexadecimal(word)?),
+            value: f64_from_bits_with_nan(bits),
         })
     }
 
-    fn write(self, line: &mut String) -> Result<(), Fault> {
-        space(line)?;
+    fn write(self, line: &mut String) -> Result<(), AllocError> {
         let bits = f64_to_bits_with_nan(self.value);
-        write!(line, "{bits:016x}")?;
-        Ok(())
+        write!(line, "{bits:016x}")
     }
 }
 
-impl Number for Count {
-    fn read(word: &str) -> Option<Count> {
-        Some(Count {
-            value: integer(word)?,
-        })
+// A scalar that is written as a decimal i32.
+pub trait Integer: Scalar {
+    fn of(value: i32) -> Self;
+
+    fn value(self) -> i32;
+}
+
+impl<I: Integer> Number for I {
+    fn read(word: &str) -> Option<I> {
+        Some(I::of(word.parse().ok()?))
     }
 
-    fn write(self, line: &mut String) -> Result<(), Fault> {
-        write_integer(self.value, line)
+    fn write(self, line: &mut String) -> Result<(), AllocError> {
+        let value = self.value();
+        write!(line, "{value}")
     }
 }
 
-impl Number for Residue {
-    fn read(word: &str) -> Option<Residue> {
-        Some(Residue::from_plain(integer(word)?))
+impl Integer for Count {
+    fn of(value: i32) -> Count {
+        Count { value }
     }
 
-    fn write(self, line: &mut String) -> Result<(), Fault> {
-        write_integer(self.to_plain(), line)
-    }
-}
-
-impl Number for Pixel {
-    fn read(word: &str) -> Option<Pixel> {
-        Some(Pixel::from(integer(word)?))
-    }
-
-    fn write(self, line: &mut String) -> Result<(), Fault> {
-        write_integer(self.value, line)
+    fn value(self) -> i32 {
+        self.value
     }
 }
 
-impl Number for Whole {
-    fn read(word: &str) -> Option<Whole> {
-        Some(Whole::from(integer(word)?))
+impl Integer for Residue {
+    fn of(value: i32) -> Residue {
+        Residue::from_plain(value)
     }
 
-    fn write(self, line: &mut String) -> Result<(), Fault> {
-        write_integer(self.value, line)
+    fn value(self) -> i32 {
+        self.to_plain()
+    }
+}
+
+impl Integer for Pixel {
+    fn of(value: i32) -> Pixel {
+        Pixel { value }
+    }
+
+    fn value(self) -> i32 {
+        self.value
+    }
+}
+
+impl Integer for Whole {
+    fn of(value: i32) -> Whole {
+        Whole { value }
+    }
+
+    fn value(self) -> i32 {
+        self.value
+    }
+}
+
+// A scalar that may have an order.
+pub trait Orderable: Number {
+    // The scalar itself, where it has one.
+    type Ordered: Sorted;
+
+    // The question, for a function that needs an order.
+    fn ordered<'q, 'a>(
+        _q: &'q mut Question<'a, Self>,
+    ) -> Result<&'q mut Question<'a, Self::Ordered>, Refusal> {
+        Err(Refusal::Unordered)
+    }
+}
+
+impl Orderable for Count {
+    type Ordered = Whole;
+}
+
+impl Orderable for Residue {
+    type Ordered = Whole;
+}
+
+// A scalar that has one.
+pub trait Sorted: Number + Ordered {}
+
+impl Sorted for Real {}
+
+impl Sorted for Pixel {}
+
+impl Sorted for Whole {}
+
+impl<T: Sorted> Orderable for T {
+    type Ordered = T;
+
+    fn ordered<'q, 'a>(q: &'q mut Question<'a, T>) -> Result<&'q mut Question<'a, T>, Refusal> {
+        Ok(q)
     }
 }

@@ -1,120 +1,162 @@
-// The functions of points, vectors, sizes and homogeneous vectors.
-use crate::number::Number;
-use crate::refusal::{Fault, Refusal};
-use crate::shapes::{Answer, Numbers, Shape, Supply};
+// Points, vectors, sizes and homogeneous vectors: their numbers, and the functions that can be asked about.
+use crate::number::Orderable;
+use crate::question::Question;
+use crate::refusal::Fault;
+use crate::shapes::{Answer, Row, Shape};
 use crate::table::Asked;
 use geometry::types::{HomogeneousVector, Point2D, Point3D, Size2D, Vector2D, Vector3D};
+use scalar::Tag;
 use spaces::Camera;
 
-type P2<T> = Point2D<T, Camera>;
+impl<T: Orderable, U: Tag> Shape<T> for Point2D<T, U> {
+    type Fields = (T, T);
 
-type P3<T> = Point3D<T, Camera>;
+    fn from_fields((x, y): (T, T)) -> Self {
+        Point2D::new(x, y)
+    }
 
-type V2<T> = Vector2D<T, Camera>;
+    fn fields(self) -> (T, T) {
+        (self.x, self.y)
+    }
 
-type V3<T> = Vector3D<T, Camera>;
-
-type Sz<T> = Size2D<T, Camera>;
-
-type HV<T> = HomogeneousVector<T, Camera>;
-
-// Two or three numbers are answered as they are.
-fn say2<T: Number>((x, y): (T, T), line: &mut String) -> Result<(), Fault> {
-    x.write(line)?;
-    y.write(line)
+    fn same(&self, other: &Self) -> bool {
+        self.eq(other)
+    }
 }
 
-fn say3<T: Number>((x, y, z): (T, T, T), line: &mut String) -> Result<(), Fault> {
-    x.write(line)?;
-    y.write(line)?;
-    z.write(line)
-}
-
-impl<T: Number> Asked<T> for Point2D<T, Camera> {
-    fn ask(function: &str, numbers: &mut Numbers<'_, T>, line: &mut String) -> Result<(), Fault> {
-        match function {
-            "new" => P2::<T>::taken(numbers)?.say(line),
-            "origin" => P2::<T>::origin().say(line),
-            "zero" => P2::<T>::zero().say(line),
-            "to_tuple" => say2(P2::<T>::taken(numbers)?.to_tuple(), line),
-            "eq" => P2::<T>::taken(numbers)?
-                .eq(&P2::<T>::taken(numbers)?)
-                .say(line),
-            "add" => P2::<T>::taken(numbers)?
-                .add(Sz::<T>::taken(numbers)?)
-                .say(line),
-            "sub" => P2::<T>::taken(numbers)?
-                .sub(P2::<T>::taken(numbers)?)
-                .say(line),
-            _ => Err(Refusal::UnknownFunction.into()),
+impl<T: Orderable> Asked<T> for Point2D<T, Camera> {
+    fn ask(q: &mut Question<'_, T>) -> Result<(), Fault> {
+        match q.function {
+            "origin" => Self::origin().say(q),
+            "zero" => Self::zero().say(q),
+            "to_tuple" => Self::of(q)?.to_tuple().say(q),
+            "add" => Self::of(q)?.add(Size2D::of(q)?).say(q),
+            "sub" => Self::of(q)?.sub(Point2D::of(q)?).say(q),
+            _ => Self::ask_any(q),
         }
     }
 }
 
-impl<T: Number> Asked<T> for Point3D<T, Camera> {
-    fn ask(function: &str, numbers: &mut Numbers<'_, T>, line: &mut String) -> Result<(), Fault> {
-        match function {
-            "new" => P3::<T>::taken(numbers)?.say(line),
-            "origin" => P3::<T>::origin().say(line),
-            "zero" => P3::<T>::zero().say(line),
-            "to_tuple" => say3(P3::<T>::taken(numbers)?.to_tuple(), line),
-            "eq" => P3::<T>::taken(numbers)?
-                .eq(&P3::<T>::taken(numbers)?)
-                .say(line),
-            _ => Err(Refusal::UnknownFunction.into()),
+impl<T: Orderable, U: Tag> Shape<T> for Point3D<T, U> {
+    type Fields = (T, T, T);
+
+    fn from_fields((x, y, z): (T, T, T)) -> Self {
+        Point3D::new(x, y, z)
+    }
+
+    fn fields(self) -> (T, T, T) {
+        (self.x, self.y, self.z)
+    }
+
+    fn same(&self, other: &Self) -> bool {
+        self.eq(other)
+    }
+}
+
+impl<T: Orderable> Asked<T> for Point3D<T, Camera> {
+    fn ask(q: &mut Question<'_, T>) -> Result<(), Fault> {
+        match q.function {
+            "origin" => Self::origin().say(q),
+            "zero" => Self::zero().say(q),
+            "to_tuple" => Self::of(q)?.to_tuple().say(q),
+            _ => Self::ask_any(q),
         }
     }
 }
 
-impl<T: Number> Asked<T> for Vector2D<T, Camera> {
-    fn ask(function: &str, numbers: &mut Numbers<'_, T>, line: &mut String) -> Result<(), Fault> {
-        match function {
-            "new" => V2::<T>::taken(numbers)?.say(line),
-            "eq" => V2::<T>::taken(numbers)?
-                .eq(&V2::<T>::taken(numbers)?)
-                .say(line),
-            "to_size" => V2::<T>::taken(numbers)?.to_size().say(line),
-            _ => Err(Refusal::UnknownFunction.into()),
+impl<T: Orderable, U: Tag> Shape<T> for Vector2D<T, U> {
+    type Fields = (T, T);
+
+    fn from_fields((x, y): (T, T)) -> Self {
+        Vector2D::new(x, y)
+    }
+
+    fn fields(self) -> (T, T) {
+        (self.x, self.y)
+    }
+
+    fn same(&self, other: &Self) -> bool {
+        self.eq(other)
+    }
+}
+
+impl<T: Orderable> Asked<T> for Vector2D<T, Camera> {
+    fn ask(q: &mut Question<'_, T>) -> Result<(), Fault> {
+        match q.function {
+            "to_size" => Self::of(q)?.to_size().say(q),
+            _ => Self::ask_any(q),
         }
     }
 }
 
-impl<T: Number> Asked<T> for Vector3D<T, Camera> {
-    fn ask(function: &str, numbers: &mut Numbers<'_, T>, line: &mut String) -> Result<(), Fault> {
-        match function {
-            "new" => V3::<T>::taken(numbers)?.say(line),
-            "eq" => V3::<T>::taken(numbers)?
-                .eq(&V3::<T>::taken(numbers)?)
-                .say(line),
-            _ => Err(Refusal::UnknownFunction.into()),
-        }
+impl<T: Orderable, U: Tag> Shape<T> for Vector3D<T, U> {
+    type Fields = (T, T, T);
+
+    fn from_fields((x, y, z): (T, T, T)) -> Self {
+        Vector3D::new(x, y, z)
+    }
+
+    fn fields(self) -> (T, T, T) {
+        (self.x, self.y, self.z)
+    }
+
+    fn same(&self, other: &Self) -> bool {
+        self.eq(other)
     }
 }
 
-impl<T: Number> Asked<T> for Size2D<T, Camera> {
-    fn ask(function: &str, numbers: &mut Numbers<'_, T>, line: &mut String) -> Result<(), Fault> {
-        match function {
-            "new" => Sz::<T>::taken(numbers)?.say(line),
-            "eq" => Sz::<T>::taken(numbers)?
-                .eq(&Sz::<T>::taken(numbers)?)
-                .say(line),
-            _ => Err(Refusal::UnknownFunction.into()),
-        }
+impl<T: Orderable, U: Tag> Shape<T> for Size2D<T, U> {
+    type Fields = (T, T);
+
+    fn from_fields((width, height): (T, T)) -> Self {
+        Size2D::new(width, height)
+    }
+
+    fn fields(self) -> (T, T) {
+        (self.width, self.height)
+    }
+
+    fn same(&self, other: &Self) -> bool {
+        self.eq(other)
     }
 }
 
-impl<T: Number> Asked<T> for HomogeneousVector<T, Camera> {
-    fn ask(function: &str, numbers: &mut Numbers<'_, T>, line: &mut String) -> Result<(), Fault> {
-        match function {
-            "new" => HV::<T>::taken(numbers)?.say(line),
-            "eq" => HV::<T>::taken(numbers)?
-                .eq(&HV::<T>::taken(numbers)?)
-                .say(line),
-            "from_Vector2D" => HV::<T>::from(V2::<T>::taken(numbers)?).say(line),
-            "from_Vector3D" => HV::<T>::from(V3::<T>::taken(numbers)?).say(line),
-            "from_Point2D" => HV::<T>::from(P2::<T>::taken(numbers)?).say(line),
-            "from_Point3D" => HV::<T>::from(P3::<T>::taken(numbers)?).say(line),
-            _ => Err(Refusal::UnknownFunction.into()),
+impl<T: Orderable, U: Tag> Shape<T> for HomogeneousVector<T, U> {
+    type Fields = (T, T, T, T);
+
+    fn from_fields((x, y, z, w): (T, T, T, T)) -> Self {
+        HomogeneousVector::new(x, y, z, w)
+    }
+
+    fn fields(self) -> (T, T, T, T) {
+        (self.x, self.y, self.z, self.w)
+    }
+
+    fn same(&self, other: &Self) -> bool {
+        self.eq(other)
+    }
+}
+
+impl<T: Orderable> Asked<T> for HomogeneousVector<T, Camera> {
+    fn ask(q: &mut Question<'_, T>) -> Result<(), Fault> {
+        match q.function {
+            "from_Vector2D" => Self::from(Vector2D::of(q)?).say(q),
+            "from_Vector3D" => Self::from(Vector3D::of(q)?).say(q),
+            "from_Point2D" => Self::from(Point2D::of(q)?).say(q),
+            "from_Point3D" => Self::from(Point3D::of(q)?).say(q),
+            "to_point2d" => {
+                let q = T::ordered(q)?;
+                HomogeneousVector::<T::Ordered, Camera>::of(q)?
+                    .to_point2d()
+                    .say(q)
+            }
+            "to_point3d" => {
+                let q = T::ordered(q)?;
+                HomogeneousVector::<T::Ordered, Camera>::of(q)?
+                    .to_point3d()
+                    .say(q)
+            }
+            _ => Self::ask_any(q),
         }
     }
 }

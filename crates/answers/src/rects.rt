@@ -1,56 +1,106 @@
-// The functions of rectangles and boxes.
-use crate::number::Number;
-use crate::refusal::{Fault, Refusal};
-use crate::shapes::{Answer, Numbers, Shape};
+// Rectangles and boxes: their numbers, and the functions that can be asked about.
+use crate::number::Orderable;
+use crate::question::Question;
+use crate::refusal::Fault;
+use crate::shapes::{Answer, Shape};
 use crate::table::Asked;
-use geometry::types::{Box2D, Box3D, Rect};
+use geometry::types::{Box2D, Box3D, Point2D, Point3D, Rect, Size2D};
+use scalar::Tag;
 use spaces::Camera;
 
-type R<T> = Rect<T, Camera>;
+impl<T: Orderable, U: Tag> Shape<T> for Rect<T, U> {
+    type Fields = ((T, T), (T, T));
 
-type B2<T> = Box2D<T, Camera>;
+    fn from_fields((origin, size): ((T, T), (T, T))) -> Self {
+        Rect::new(Point2D::from_fields(origin), Size2D::from_fields(size))
+    }
 
-type B3<T> = Box3D<T, Camera>;
+    fn fields(self) -> ((T, T), (T, T)) {
+        (self.origin.fields(), self.size.fields())
+    }
 
-impl<T: Number> Asked<T> for Rect<T, Camera> {
-    fn ask(function: &str, numbers: &mut Numbers<'_, T>, line: &mut String) -> Result<(), Fault> {
-        match function {
-            "new" => R::<T>::taken(numbers)?.say(line),
-            "eq" => R::<T>::taken(numbers)?
-                .eq(&R::<T>::taken(numbers)?)
-                .say(line),
-            "min" => R::<T>::taken(numbers)?.min().say(line),
-            "max" => R::<T>::taken(numbers)?.max().say(line),
-            "to_box2d" => R::<T>::taken(numbers)?.to_box2d().say(line),
-            _ => Err(Refusal::UnknownFunction.into()),
+    fn same(&self, other: &Self) -> bool {
+        self.eq(other)
+    }
+}
+
+impl<T: Orderable> Asked<T> for Rect<T, Camera> {
+    fn ask(q: &mut Question<'_, T>) -> Result<(), Fault> {
+        match q.function {
+            "min" => Self::of(q)?.min().say(q),
+            "max" => Self::of(q)?.max().say(q),
+            "to_box2d" => Self::of(q)?.to_box2d().say(q),
+            "from_points" => {
+                let q = T::ordered(q)?;
+                Rect::<T::Ordered, Camera>::from_points(
+                    q.shapes(q.numbers.len().div_ceil(2))?.as_slice(),
+                ).say(q)
+            }
+            _ => Self::ask_any(q),
         }
     }
 }
 
-impl<T: Number> Asked<T> for Box2D<T, Camera> {
-    fn ask(function: &str, numbers: &mut Numbers<'_, T>, line: &mut String) -> Result<(), Fault> {
-        match function {
-            "new" => B2::<T>::taken(numbers)?.say(line),
-            "eq" => B2::<T>::taken(numbers)?
-                .eq(&B2::<T>::taken(numbers)?)
-                .say(line),
-            "zero" => B2::<T>::zero().say(line),
-            "size" => B2::<T>::taken(numbers)?.size().say(line),
-            "to_rect" => B2::<T>::taken(numbers)?.to_rect().say(line),
-            _ => Err(Refusal::UnknownFunction.into()),
+impl<T: Orderable, U: Tag> Shape<T> for Box2D<T, U> {
+    type Fields = ((T, T), (T, T));
+
+    fn from_fields((min, max): ((T, T), (T, T))) -> Self {
+        Box2D::new(Point2D::from_fields(min), Point2D::from_fields(max))
+    }
+
+    fn fields(self) -> ((T, T), (T, T)) {
+        (self.min.fields(), self.max.fields())
+    }
+
+    fn same(&self, other: &Self) -> bool {
+        self.eq(other)
+    }
+}
+
+impl<T: Orderable> Asked<T> for Box2D<T, Camera> {
+    fn ask(q: &mut Question<'_, T>) -> Result<(), Fault> {
+        match q.function {
+            "zero" => Self::zero().say(q),
+            "size" => Self::of(q)?.size().say(q),
+            "to_rect" => Self::of(q)?.to_rect().say(q),
+            "from_points" => {
+                let q = T::ordered(q)?;
+                Box2D::<T::Ordered, Camera>::from_points(
+                    q.shapes(q.numbers.len().div_ceil(2))?.as_slice(),
+                ).say(q)
+            }
+            _ => Self::ask_any(q),
         }
     }
 }
 
-impl<T: Number> Asked<T> for Box3D<T, Camera> {
-    fn ask(function: &str, numbers: &mut Numbers<'_, T>, line: &mut String) -> Result<(), Fault> {
-        match function {
-            "new" => B3::<T>::taken(numbers)?.say(line),
-            "eq" => B3::<T>::taken(numbers)?
-                .eq(&B3::<T>::taken(numbers)?)
-                .say(line),
-            "zero" => B3::<T>::zero().say(line),
-            _ => Err(Refusal::UnknownFunction.into()),
+impl<T: Orderable, U: Tag> Shape<T> for Box3D<T, U> {
+    type Fields = ((T, T, T), (T, T, T));
+
+    fn from_fields((min, max): ((T, T, T), (T, T, T))) -> Self {
+        Box3D::new(Point3D::from_fields(min), Point3D::from_fields(max))
+    }
+
+    fn fields(self) -> ((T, T, T), (T, T, T)) {
+        (self.min.fields(), self.max.fields())
+    }
+
+    fn same(&self, other: &Self) -> bool {
+        self.eq(other)
+    }
+}
+
+impl<T: Orderable> Asked<T> for Box3D<T, Camera> {
+    fn ask(q: &mut Question<'_, T>) -> Result<(), Fault> {
+        match q.function {
+            "zero" => Self::zero().say(q),
+            "from_points" => {
+                let q = T::ordered(q)?;
+                Box3D::<T::Ordered, Camera>::from_points(
+                    q.shapes(q.numbers.len().div_ceil(3))?.as_slice(),
+                ).say(q)
+            }
+            _ => Self::ask_any(q),
         }
     }
 }

@@ -1,61 +1,32 @@
 // Why a question has no answer, and what is said then.
-use std::alloc::{AllocError, AllocFailed};
-use std::fmt;
+use std::alloc::AllocError;
+use thiserror::Error;
 
-#[derive(Drop)]
+#[derive(Debug, Drop, Error)]
 pub enum Refusal {
+    #[error("ERROR not text")]
     NotText,
+    #[error("ERROR short line")]
     ShortLine,
+    #[error("ERROR unknown scalar")]
     UnknownScalar,
+    #[error("ERROR bad number")]
     BadNumber,
+    #[error("ERROR unknown function")]
     UnknownFunction,
+    #[error("UNORDERED")]
     Unordered,
+    #[error("ERROR too few numbers")]
     TooFewNumbers,
+    #[error("ERROR too many numbers")]
     TooManyNumbers,
 }
 
-impl fmt::Display for Refusal {
-    fn fmt<W: fmt::Write>(&self, f: &mut fmt::Formatter<W>) -> fmt::Result {
-        f.write_str(match self {
-            Refusal::NotText => "ERROR not text",
-            Refusal::ShortLine => "ERROR short line",
-            Refusal::UnknownScalar => "ERROR unknown scalar",
-            Refusal::BadNumber => "ERROR bad number",
-            Refusal::UnknownFunction => "ERROR unknown function",
-            Refusal::Unordered => "UNORDERED",
-            Refusal::TooFewNumbers => "ERROR too few numbers",
-            Refusal::TooManyNumbers => "ERROR too many numbers",
-        })
-    }
-}
-
-// What ends a question: a refusal, which is its answer, or want of memory, which ends the program.
-#[derive(Drop)]
+// What ends a question: a refusal, which is its answer, or want of memory, which ends the program. An enum and no Option, since `?` makes it of either.
+#[derive(Debug, Drop, Error)]
 pub enum Fault {
-    Refused(Refusal),
-    Memory,
-}
-
-impl From<Refusal> for Fault {
-    fn from(refusal: Refusal) -> Fault {
-        Fault::Refused(refusal)
-    }
-}
-
-impl From<AllocError> for Fault {
-    fn from(_e: AllocError) -> Fault {
-        Fault::Memory
-    }
-}
-
-impl<T: Drop> From<AllocFailed<T>> for Fault {
-    fn from(_e: AllocFailed<T>) -> Fault {
-        Fault::Memory
-    }
-}
-
-impl From<fmt::Error> for Fault {
-    fn from(_e: fmt::Error) -> Fault {
-        Fault::Memory
-    }
+    #[error(transparent)]
+    Refused(#[from] Refusal),
+    #[error(transparent)]
+    Memory(#[from(alloc)] AllocError),
 }

@@ -1,71 +1,68 @@
-// The functions of ScaleOffset2D.
-use crate::number::Number;
-use crate::refusal::{Fault, Refusal};
-use crate::shapes::{Answer, Numbers, Shape, Supply};
+// ScaleOffset2D: its numbers, and the functions that can be asked about.
+use crate::number::Orderable;
+use crate::question::Question;
+use crate::refusal::Fault;
+use crate::shapes::{Answer, Shape};
 use crate::table::Asked;
-use geometry::types::{Point2D, Vector2D};
-use geometry::unit::UnknownUnit;
+use geometry::types::{Box2D, Point2D, Rect, Vector2D};
+use scalar::Tag;
 use spaces::{Beam, Camera, Hide};
 use transform2d::types::ScaleOffset2D;
 
-type Scaling<T> = ScaleOffset2D<T, Camera, Hide>;
+pub type Scaling<T> = ScaleOffset2D<T, Camera, Hide>;
 
-type Untyped<T> = ScaleOffset2D<T, UnknownUnit, UnknownUnit>;
+impl<T: Orderable, Src: Tag, Dst: Tag> Shape<T> for ScaleOffset2D<T, Src, Dst> {
+    type Fields = (T, T, T, T);
 
-impl<T: Number> Asked<T> for ScaleOffset2D<T, Camera, Hide> {
-    fn ask(function: &str, numbers: &mut Numbers<'_, T>, line: &mut String) -> Result<(), Fault> {
-        match function {
-            "new" => Scaling::<T>::taken(numbers)?.say(line),
-            "identity" => Scaling::<T>::identity().say(line),
-            "scale" => Scaling::<T>::scale(numbers.number()?, numbers.number()?).say(line),
-            "offset" => Scaling::<T>::offset(numbers.number()?, numbers.number()?).say(line),
-            "to_untyped" => Scaling::<T>::taken(numbers)?.to_untyped().say(line),
-            "from_untyped" => Scaling::<T>::from_untyped(Untyped::<T>::taken(numbers)?).say(line),
-            "with_source" => Scaling::<T>::taken(numbers)?
-                .with_source::<Beam>()
-                .say(line),
-            "with_destination" => Scaling::<T>::taken(numbers)?
-                .with_destination::<Beam>()
-                .say(line),
-            "to_transform2d" => Scaling::<T>::taken(numbers)?.to_transform2d().say(line),
-            "to_transform3d" => Scaling::<T>::taken(numbers)?.to_transform3d().say(line),
-            _ => ask_more(function, numbers, line),
+    fn from_fields((sx, sy, tx, ty): (T, T, T, T)) -> Self {
+        ScaleOffset2D::new(sx, sy, tx, ty)
+    }
+
+    fn fields(self) -> (T, T, T, T) {
+        (self.sx, self.sy, self.tx, self.ty)
+    }
+
+    fn same(&self, other: &Self) -> bool {
+        self.eq(other)
+    }
+}
+
+impl<T: Orderable> Asked<T> for ScaleOffset2D<T, Camera, Hide> {
+    fn ask(q: &mut Question<'_, T>) -> Result<(), Fault> {
+        match q.function {
+            "identity" => Self::identity().say(q),
+            "scale" => Self::scale(q.number()?, q.number()?).say(q),
+            "offset" => Self::offset(q.number()?, q.number()?).say(q),
+            "from_untyped" => Self::from_untyped(ScaleOffset2D::of(q)?).say(q),
+            "to_untyped" => Self::of(q)?.to_untyped().say(q),
+            "with_source" => Self::of(q)?.with_source::<Beam>().say(q),
+            "with_destination" => Self::of(q)?.with_destination::<Beam>().say(q),
+            "to_transform2d" => Self::of(q)?.to_transform2d().say(q),
+            "to_transform3d" => Self::of(q)?.to_transform3d().say(q),
+            _ => ask_more(q),
         }
     }
 }
 
-fn ask_more<T: Number>(
-    function: &str,
-    numbers: &mut Numbers<'_, T>,
-    line: &mut String,
-) -> Result<(), Fault> {
-    match function {
-        "eq" => Scaling::<T>::taken(numbers)?
-            .eq(&Scaling::<T>::taken(numbers)?)
-            .say(line),
-        "then" => Scaling::<T>::taken(numbers)?
-            .then(&ScaleOffset2D::<T, Hide, Beam>::taken(numbers)?)
-            .say(line),
-        "pre_translate" => Scaling::<T>::taken(numbers)?
-            .pre_translate(Vector2D::taken(numbers)?)
-            .say(line),
-        "then_translate" => Scaling::<T>::taken(numbers)?
-            .then_translate(Vector2D::taken(numbers)?)
-            .say(line),
-        "pre_scale" => Scaling::<T>::taken(numbers)?
-            .pre_scale(numbers.number()?, numbers.number()?)
-            .say(line),
-        "then_scale" => Scaling::<T>::taken(numbers)?
-            .then_scale(numbers.number()?, numbers.number()?)
-            .say(line),
-        "transform_point" => Scaling::<T>::taken(numbers)?
-            .transform_point(Point2D::taken(numbers)?)
-            .say(line),
-        "transform_vector" => Scaling::<T>::taken(numbers)?
-            .transform_vector(Vector2D::taken(numbers)?)
-            .say(line),
-        "is_invertible" => Scaling::<T>::taken(numbers)?.is_invertible().say(line),
-        "inverse" => Scaling::<T>::taken(numbers)?.inverse().say(line),
-        _ => Err(Refusal::UnknownFunction.into()),
+fn ask_more<T: Orderable>(q: &mut Question<'_, T>) -> Result<(), Fault> {
+    match q.function {
+        "then" => Scaling::of(q)?.then::<Beam>(&ScaleOffset2D::of(q)?).say(q),
+        "then_translate" => Scaling::of(q)?.then_translate(Vector2D::of(q)?).say(q),
+        "pre_translate" => Scaling::of(q)?.pre_translate(Vector2D::of(q)?).say(q),
+        "then_scale" => Scaling::of(q)?.then_scale(q.number()?, q.number()?).say(q),
+        "pre_scale" => Scaling::of(q)?.pre_scale(q.number()?, q.number()?).say(q),
+        "transform_point" => Scaling::of(q)?.transform_point(Point2D::of(q)?).say(q),
+        "transform_vector" => Scaling::of(q)?.transform_vector(Vector2D::of(q)?).say(q),
+        "is_invertible" => Scaling::of(q)?.is_invertible().say(q),
+        "inverse" => Scaling::of(q)?.inverse().say(q),
+        "transform_box" => {
+            let q = T::ordered(q)?;
+            Scaling::of(q)?.transform_box(&Box2D::of(q)?).say(q)
+        }
+        "transform_rect" => {
+            let q = T::ordered(q)?;
+            Scaling::of(q)?.transform_rect(&Rect::of(q)?).say(q)
+        }
+        _ => Scaling::ask_any(q),
     }
 }

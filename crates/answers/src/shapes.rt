@@ -1,272 +1,114 @@
-// How the types stand in a question and in an answer: as their numbers, in the order of their fields.
-use crate::number::Number;
+// What stands in questions and answers.
+use crate::number::Orderable;
+use crate::question::Question;
 use crate::refusal::{Fault, Refusal};
-use geometry::types::{
-    Box2D, Box3D, HomogeneousVector, Point2D, Point3D, Rect, Size2D, Vector2D, Vector3D,
-};
-use scalar::Tag;
-use std::slice::Iter;
-use transform2d::types::{ScaleOffset2D, Transform2D};
-use transform3d::types::Transform3D;
 
-// The numbers of a question that are not taken yet.
-pub type Numbers<'a, T> = Iter<'a, T>;
+// A number, or a tuple of such.
+pub trait Row<T>: Copy {
+    // The next of the question's.
+    fn of(q: &mut Question<'_, T>) -> Result<Self, Refusal>;
 
-pub trait Supply<T> {
-    fn number(&mut self) -> Result<T, Refusal>;
+    // Adds it to the answer, after a blank but at the start.
+    fn say(self, q: &mut Question<'_, T>) -> Result<(), Fault>;
 }
 
-impl<'a, T: Copy> Supply<T> for Iter<'a, T> {
-    fn number(&mut self) -> Result<T, Refusal> {
-        match self.next() {
-            Some(x) => Ok(*x),
-            None => Err(Refusal::TooFewNumbers),
+impl<T: Orderable> Row<T> for T {
+    fn of(q: &mut Question<'_, T>) -> Result<T, Refusal> {
+        q.number()
+    }
+
+    fn say(self, q: &mut Question<'_, T>) -> Result<(), Fault> {
+        if !q.answer.is_empty() {
+            q.answer.push(' ')?;
+        }
+        Ok(self.write(&mut q.answer)?)
+    }
+}
+
+impl<T, A: Row<T>, B: Row<T>> Row<T> for (A, B) {
+    fn of(q: &mut Question<'_, T>) -> Result<(A, B), Refusal> {
+        Ok((A::of(q)?, B::of(q)?))
+    }
+
+    fn say(self, q: &mut Question<'_, T>) -> Result<(), Fault> {
+        self.0.say(q)?;
+        self.1.say(q)
+    }
+}
+
+impl<T, A: Row<T>, B: Row<T>, C: Row<T>> Row<T> for (A, B, C) {
+    fn of(q: &mut Question<'_, T>) -> Result<(A, B, C), Refusal> {
+        Ok((A::of(q)?, B::of(q)?, C::of(q)?))
+    }
+
+    fn say(self, q: &mut Question<'_, T>) -> Result<(), Fault> {
+        let (a, b, c) = self;
+        (a, (b, c)).say(q)
+    }
+}
+
+impl<T, A: Row<T>, B: Row<T>, C: Row<T>, D: Row<T>> Row<T> for (A, B, C, D) {
+    fn of(q: &mut Question<'_, T>) -> Result<(A, B, C, D), Refusal> {
+        Ok((A::of(q)?, B::of(q)?, C::of(q)?, D::of(q)?))
+    }
+
+    fn say(self, q: &mut Question<'_, T>) -> Result<(), Fault> {
+        let (a, b, c, d) = self;
+        ((a, b), (c, d)).say(q)
+    }
+}
+
+// Six numbers.
+pub type Pairs<T> = ((T, T), (T, T), (T, T));
+
+// A type that stands as its fields, in order.
+pub trait Shape<T: Orderable>: Copy {
+    type Fields: Row<T>;
+
+    fn from_fields(fields: Self::Fields) -> Self;
+
+    fn fields(self) -> Self::Fields;
+
+    // The type's own equality.
+    fn same(&self, other: &Self) -> bool;
+
+    // The functions of every type.
+    final fn ask_any(q: &mut Question<'_, T>) -> Result<(), Fault> {
+        match q.function {
+            "new" => Self::of(q)?.say(q),
+            "eq" => Self::of(q)?.same(&Self::of(q)?).say(q),
+            _ => Err(Refusal::UnknownFunction.into()),
         }
     }
-}
 
-// A value that a question can hold.
-pub trait Shape<T>: Sized {
-    fn taken(numbers: &mut Numbers<'_, T>) -> Result<Self, Refusal>;
-}
+    fn of(q: &mut Question<'_, T>) -> Result<Self, Refusal> {
+        Ok(Self::from_fields(Self::Fields::of(q)?))
+    }
 
-// A value that an answer can be.
-pub trait Answer {
-    fn say(self, line: &mut String) -> Result<(), Fault>;
-}
-
-impl Answer for bool {
-    fn say(self, line: &mut String) -> Result<(), Fault> {
-        line.push_str(if self { "true" } else { "false" })?;
-        Ok(())
+    fn say(self, q: &mut Question<'_, T>) -> Result<(), Fault> {
+        self.fields().say(q)
     }
 }
 
-impl<A: Answer + Copy> Answer for Option<A> {
-    fn say(self, line: &mut String) -> Result<(), Fault> {
+// What else a function can answer.
+pub trait Answer<T: Orderable> {
+    fn say(self, q: &mut Question<'_, T>) -> Result<(), Fault>;
+}
+
+impl<T: Orderable> Answer<T> for bool {
+    fn say(self, q: &mut Question<'_, T>) -> Result<(), Fault> {
+        Ok(q.answer.push_str(if self { "true" } else { "false" })?)
+    }
+}
+
+impl<T: Orderable, S: Shape<T>> Answer<T> for Option<S> {
+    fn say(self, q: &mut Question<'_, T>) -> Result<(), Fault> {
         match self {
-            None => {
-                line.push_str("None")?;
-                Ok(())
-            }
-            Some(value) => {
-                line.push_str("Some")?;
-                value.say(line)
+            None => Ok(q.answer.push_str("None")?),
+            Some(shape) => {
+                q.answer.push_str("Some")?;
+                shape.say(q)
             }
         }
-    }
-}
-
-impl<T: Number, U: Tag> Shape<T> for Point2D<T, U> {
-    fn taken(numbers: &mut Numbers<'_, T>) -> Result<Point2D<T, U>, Refusal> {
-        Ok(Point2D::new(numbers.number()?, numbers.number()?))
-    }
-}
-
-impl<T: Number, U: Tag> Answer for Point2D<T, U> {
-    fn say(self, line: &mut String) -> Result<(), Fault> {
-        self.x.write(line)?;
-        self.y.write(line)
-    }
-}
-
-impl<T: Number, U: Tag> Shape<T> for Point3D<T, U> {
-    fn taken(numbers: &mut Numbers<'_, T>) -> Result<Point3D<T, U>, Refusal> {
-        Ok(Point3D::new(numbers.number()?, numbers.number()?, numbers.number()?))
-    }
-}
-
-impl<T: Number, U: Tag> Answer for Point3D<T, U> {
-    fn say(self, line: &mut String) -> Result<(), Fault> {
-        self.x.write(line)?;
-        self.y.write(line)?;
-        self.z.write(line)
-    }
-}
-
-impl<T: Number, U: Tag> Shape<T> for Vector2D<T, U> {
-    fn taken(numbers: &mut Numbers<'_, T>) -> Result<Vector2D<T, U>, Refusal> {
-        Ok(Vector2D::new(numbers.number()?, numbers.number()?))
-    }
-}
-
-impl<T: Number, U: Tag> Answer for Vector2D<T, U> {
-    fn say(self, line: &mut String) -> Result<(), Fault> {
-        self.x.write(line)?;
-        self.y.write(line)
-    }
-}
-
-impl<T: Number, U: Tag> Shape<T> for Vector3D<T, U> {
-    fn taken(numbers: &mut Numbers<'_, T>) -> Result<Vector3D<T, U>, Refusal> {
-        Ok(Vector3D::new(numbers.number()?, numbers.number()?, numbers.number()?))
-    }
-}
-
-impl<T: Number, U: Tag> Answer for Vector3D<T, U> {
-    fn say(self, line: &mut String) -> Result<(), Fault> {
-        self.x.write(line)?;
-        self.y.write(line)?;
-        self.z.write(line)
-    }
-}
-
-impl<T: Number, U: Tag> Shape<T> for Size2D<T, U> {
-    fn taken(numbers: &mut Numbers<'_, T>) -> Result<Size2D<T, U>, Refusal> {
-        Ok(Size2D::new(numbers.number()?, numbers.number()?))
-    }
-}
-
-impl<T: Number, U: Tag> Answer for Size2D<T, U> {
-    fn say(self, line: &mut String) -> Result<(), Fault> {
-        self.width.write(line)?;
-        self.height.write(line)
-    }
-}
-
-impl<T: Number, U: Tag> Shape<T> for HomogeneousVector<T, U> {
-    fn taken(numbers: &mut Numbers<'_, T>) -> Result<HomogeneousVector<T, U>, Refusal> {
-        Ok(HomogeneousVector::new(
-            numbers.number()?,
-            numbers.number()?,
-            numbers.number()?,
-            numbers.number()?,
-        ))
-    }
-}
-
-impl<T: Number, U: Tag> Answer for HomogeneousVector<T, U> {
-    fn say(self, line: &mut String) -> Result<(), Fault> {
-        self.x.write(line)?;
-        self.y.write(line)?;
-        self.z.write(line)?;
-        self.w.write(line)
-    }
-}
-
-impl<T: Number, U: Tag> Shape<T> for Rect<T, U> {
-    fn taken(numbers: &mut Numbers<'_, T>) -> Result<Rect<T, U>, Refusal> {
-        Ok(Rect::new(Point2D::taken(numbers)?, Size2D::taken(numbers)?))
-    }
-}
-
-impl<T: Number, U: Tag> Answer for Rect<T, U> {
-    fn say(self, line: &mut String) -> Result<(), Fault> {
-        self.origin.say(line)?;
-        self.size.say(line)
-    }
-}
-
-impl<T: Number, U: Tag> Shape<T> for Box2D<T, U> {
-    fn taken(numbers: &mut Numbers<'_, T>) -> Result<Box2D<T, U>, Refusal> {
-        Ok(Box2D::new(Point2D::taken(numbers)?, Point2D::taken(numbers)?))
-    }
-}
-
-impl<T: Number, U: Tag> Answer for Box2D<T, U> {
-    fn say(self, line: &mut String) -> Result<(), Fault> {
-        self.min.say(line)?;
-        self.max.say(line)
-    }
-}
-
-impl<T: Number, U: Tag> Shape<T> for Box3D<T, U> {
-    fn taken(numbers: &mut Numbers<'_, T>) -> Result<Box3D<T, U>, Refusal> {
-        Ok(Box3D::new(Point3D::taken(numbers)?, Point3D::taken(numbers)?))
-    }
-}
-
-impl<T: Number, U: Tag> Answer for Box3D<T, U> {
-    fn say(self, line: &mut String) -> Result<(), Fault> {
-        self.min.say(line)?;
-        self.max.say(line)
-    }
-}
-
-impl<T: Number, Src: Tag, Dst: Tag> Shape<T> for ScaleOffset2D<T, Src, Dst> {
-    fn taken(numbers: &mut Numbers<'_, T>) -> Result<ScaleOffset2D<T, Src, Dst>, Refusal> {
-        Ok(ScaleOffset2D::new(
-            numbers.number()?,
-            numbers.number()?,
-            numbers.number()?,
-            numbers.number()?,
-        ))
-    }
-}
-
-impl<T: Number, Src: Tag, Dst: Tag> Answer for ScaleOffset2D<T, Src, Dst> {
-    fn say(self, line: &mut String) -> Result<(), Fault> {
-        self.sx.write(line)?;
-        self.sy.write(line)?;
-        self.tx.write(line)?;
-        self.ty.write(line)
-    }
-}
-
-impl<T: Number, Src: Tag, Dst: Tag> Shape<T> for Transform2D<T, Src, Dst> {
-    fn taken(numbers: &mut Numbers<'_, T>) -> Result<Transform2D<T, Src, Dst>, Refusal> {
-        Ok(Transform2D::new(
-            numbers.number()?,
-            numbers.number()?,
-            numbers.number()?,
-            numbers.number()?,
-            numbers.number()?,
-            numbers.number()?,
-        ))
-    }
-}
-
-impl<T: Number, Src: Tag, Dst: Tag> Answer for Transform2D<T, Src, Dst> {
-    fn say(self, line: &mut String) -> Result<(), Fault> {
-        self.m11.write(line)?;
-        self.m12.write(line)?;
-        self.m21.write(line)?;
-        self.m22.write(line)?;
-        self.m31.write(line)?;
-        self.m32.write(line)
-    }
-}
-
-impl<T: Number, Src: Tag, Dst: Tag> Shape<T> for Transform3D<T, Src, Dst> {
-    fn taken(numbers: &mut Numbers<'_, T>) -> Result<Transform3D<T, Src, Dst>, Refusal> {
-        Ok(Transform3D::new(
-            numbers.number()?,
-            numbers.number()?,
-            numbers.number()?,
-            numbers.number()?,
-            numbers.number()?,
-            numbers.number()?,
-            numbers.number()?,
-            numbers.number()?,
-            numbers.number()?,
-            numbers.number()?,
-            numbers.number()?,
-            numbers.number()?,
-            numbers.number()?,
-            numbers.number()?,
-            numbers.number()?,
-            numbers.number()?,
-        ))
-    }
-}
-
-impl<T: Number, Src: Tag, Dst: Tag> Answer for Transform3D<T, Src, Dst> {
-    fn say(self, line: &mut String) -> Result<(), Fault> {
-        self.m11.write(line)?;
-        self.m12.write(line)?;
-        self.m13.write(line)?;
-        self.m14.write(line)?;
-        self.m21.write(line)?;
-        self.m22.write(line)?;
-        self.m23.write(line)?;
-        self.m24.write(line)?;
-        self.m31.write(line)?;
-        self.m32.write(line)?;
-        self.m33.write(line)?;
-        self.m34.write(line)?;
-        self.m41.write(line)?;
-        self.m42.write(line)?;
-        self.m43.write(line)?;
-        self.m44.write(line)
     }
 }

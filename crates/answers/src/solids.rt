@@ -1,133 +1,138 @@
-// The functions of Transform3D.
-use crate::number::Number;
-use crate::refusal::{Fault, Refusal};
-use crate::shapes::{Answer, Numbers, Shape, Supply};
+// Transform3D: its numbers, and the functions that can be asked about.
+use crate::number::Orderable;
+use crate::question::Question;
+use crate::refusal::Fault;
+use crate::shapes::{Answer, Pairs, Row, Shape};
 use crate::table::Asked;
-use geometry::types::{Point2D, Point3D, Vector2D, Vector3D};
-use geometry::unit::UnknownUnit;
+use geometry::types::{Box2D, Box3D, Point2D, Point3D, Rect, Vector2D, Vector3D};
+use scalar::{Ordered, Tag};
 use spaces::{Beam, Camera, Hide};
 use transform2d::between::Planar;
 use transform2d::types::Transform2D;
 use transform3d::types::Transform3D;
 
-type Solid<T> = Transform3D<T, Camera, Hide>;
+type Four<T> = (T, T, T, T);
 
-type Untyped<T> = Transform3D<T, UnknownUnit, UnknownUnit>;
+type Matrix<T> = (Four<T>, Four<T>, Four<T>, Four<T>);
 
-impl<T: Number> Asked<T> for Transform3D<T, Camera, Hide> {
-    fn ask(function: &str, numbers: &mut Numbers<'_, T>, line: &mut String) -> Result<(), Fault> {
-        match function {
-            "new" => Solid::<T>::taken(numbers)?.say(line),
-            "new_2d" => Solid::<T>::new_2d(
-                numbers.number()?,
-                numbers.number()?,
-                numbers.number()?,
-                numbers.number()?,
-                numbers.number()?,
-                numbers.number()?,
-            )
-            .say(line),
-            "identity" => Solid::<T>::identity().say(line),
-            "translation" => Solid::<T>::translation(
-                numbers.number()?,
-                numbers.number()?,
-                numbers.number()?,
-            ).say(line),
-            "scale" => Solid::<T>::scale(
-                numbers.number()?,
-                numbers.number()?,
-                numbers.number()?,
-            ).say(line),
-            "perspective" => Solid::<T>::perspective(numbers.number()?).say(line),
-            "ortho" => Solid::<T>::ortho(
-                numbers.number()?,
-                numbers.number()?,
-                numbers.number()?,
-                numbers.number()?,
-                numbers.number()?,
-                numbers.number()?,
-            )
-            .say(line),
-            "from_Transform2D" => Solid::<T>::from(Transform2D::<T, Camera, Hide>::taken(
-                numbers,
-            )?).say(line),
-            _ => ask_between(function, numbers, line),
+pub type Solid<T> = Transform3D<T, Camera, Hide>;
+
+impl<T: Orderable, Src: Tag, Dst: Tag> Shape<T> for Transform3D<T, Src, Dst> {
+    type Fields = Matrix<T>;
+
+    fn from_fields((r1, r2, r3, r4): Matrix<T>) -> Self {
+        Transform3D::new(
+            r1.0, r1.1, r1.2, r1.3, r2.0, r2.1, r2.2, r2.3, r3.0, r3.1, r3.2, r3.3, r4.0, r4.1,
+            r4.2, r4.3,
+        )
+    }
+
+    fn fields(self) -> Matrix<T> {
+        (
+            (self.m11, self.m12, self.m13, self.m14),
+            (self.m21, self.m22, self.m23, self.m24),
+            (self.m31, self.m32, self.m33, self.m34),
+            (self.m41, self.m42, self.m43, self.m44),
+        )
+    }
+
+    fn same(&self, other: &Self) -> bool {
+        self.eq(other)
+    }
+}
+
+impl<T: Orderable> Asked<T> for Transform3D<T, Camera, Hide> {
+    fn ask(q: &mut Question<'_, T>) -> Result<(), Fault> {
+        match q.function {
+            "new_2d" => {
+                let ((m11, m12), (m21, m22), (m41, m42)) = Pairs::of(q)?;
+                Self::new_2d(m11, m12, m21, m22, m41, m42).say(q)
+            }
+            "identity" => Self::identity().say(q),
+            "translation" => Self::translation(q.number()?, q.number()?, q.number()?).say(q),
+            "scale" => Self::scale(q.number()?, q.number()?, q.number()?).say(q),
+            "perspective" => Self::perspective(q.number()?).say(q),
+            "ortho" => {
+                let ((left, right), (bottom, top), (near, far)) = Pairs::of(q)?;
+                Self::ortho(left, right, bottom, top, near, far).say(q)
+            }
+            "from_Transform2D" => Self::from(Transform2D::of(q)?).say(q),
+            "from_untyped" => Self::from_untyped(&Transform3D::of(q)?).say(q),
+            "to_untyped" => Self::of(q)?.to_untyped().say(q),
+            "with_source" => Self::of(q)?.with_source::<Beam>().say(q),
+            "with_destination" => Self::of(q)?.with_destination::<Beam>().say(q),
+            "to_2d" => Self::of(q)?.to_2d().say(q),
+            "to_scale_offset2d" => Self::of(q)?.to_scale_offset2d().say(q),
+            _ => ask_more(q),
         }
     }
 }
 
-fn ask_between<T: Number>(
-    function: &str,
-    numbers: &mut Numbers<'_, T>,
-    line: &mut String,
-) -> Result<(), Fault> {
-    match function {
-        "to_untyped" => Solid::<T>::taken(numbers)?.to_untyped().say(line),
-        "from_untyped" => Solid::<T>::from_untyped(&Untyped::<T>::taken(numbers)?).say(line),
-        "with_source" => Solid::<T>::taken(numbers)?.with_source::<Beam>().say(line),
-        "with_destination" => Solid::<T>::taken(numbers)?
-            .with_destination::<Beam>()
-            .say(line),
-        "to_2d" => Solid::<T>::taken(numbers)?.to_2d().say(line),
-        "to_scale_offset2d" => Solid::<T>::taken(numbers)?.to_scale_offset2d().say(line),
-        "eq" => Solid::<T>::taken(numbers)?
-            .eq(&Solid::<T>::taken(numbers)?)
-            .say(line),
-        "is_2d" => Solid::<T>::taken(numbers)?.is_2d().say(line),
-        "project_to_2d" => Solid::<T>::taken(numbers)?.project_to_2d().say(line),
-        _ => ask_products(function, numbers, line),
+fn ask_more<T: Orderable>(q: &mut Question<'_, T>) -> Result<(), Fault> {
+    match q.function {
+        "is_2d" => Solid::of(q)?.is_2d().say(q),
+        "project_to_2d" => Solid::of(q)?.project_to_2d().say(q),
+        "then" => Solid::of(q)?.then::<Beam>(&Transform3D::of(q)?).say(q),
+        "then_translate" => Solid::of(q)?.then_translate(Vector3D::of(q)?).say(q),
+        "pre_translate" => Solid::of(q)?.pre_translate(Vector3D::of(q)?).say(q),
+        "then_scale" => {
+            Solid::of(q)?
+                .then_scale(q.number()?, q.number()?, q.number()?)
+                .say(q)
+        }
+        "pre_scale" => Solid::of(q)?
+            .pre_scale(q.number()?, q.number()?, q.number()?)
+            .say(q),
+        "mul_s" => Solid::of(q)?.mul_s(q.number()?).say(q),
+        "determinant" => Solid::of(q)?.determinant().say(q),
+        "is_invertible" => Solid::of(q)?.is_invertible().say(q),
+        "inverse" => Solid::of(q)?.inverse().say(q),
+        "is_scale_offset_2d_eps" => {
+            let q = T::ordered(q)?;
+            Solid::of(q)?.is_scale_offset_2d_eps(q.number()?).say(q)
+        }
+        "is_backface_visible" => {
+            let q = T::ordered(q)?;
+            Solid::of(q)?.is_backface_visible().say(q)
+        }
+        _ => ask_images(q),
     }
 }
 
-fn ask_products<T: Number>(
-    function: &str,
-    numbers: &mut Numbers<'_, T>,
-    line: &mut String,
-) -> Result<(), Fault> {
-    match function {
-        "then" => Solid::<T>::taken(numbers)?
-            .then(&Transform3D::<T, Hide, Beam>::taken(numbers)?)
-            .say(line),
-        "pre_translate" => Solid::<T>::taken(numbers)?
-            .pre_translate(Vector3D::taken(numbers)?)
-            .say(line),
-        "then_translate" => Solid::<T>::taken(numbers)?
-            .then_translate(Vector3D::taken(numbers)?)
-            .say(line),
-        "pre_scale" => Solid::<T>::taken(numbers)?
-            .pre_scale(numbers.number()?, numbers.number()?, numbers.number()?)
-            .say(line),
-        "then_scale" => Solid::<T>::taken(numbers)?
-            .then_scale(numbers.number()?, numbers.number()?, numbers.number()?)
-            .say(line),
-        "mul_s" => Solid::<T>::taken(numbers)?
-            .mul_s(numbers.number()?)
-            .say(line),
-        "determinant" => Solid::<T>::taken(numbers)?.determinant().write(line),
-        "is_invertible" => Solid::<T>::taken(numbers)?.is_invertible().say(line),
-        "inverse" => Solid::<T>::taken(numbers)?.inverse().say(line),
-        _ => ask_images(function, numbers, line),
-    }
-}
-
-fn ask_images<T: Number>(
-    function: &str,
-    numbers: &mut Numbers<'_, T>,
-    line: &mut String,
-) -> Result<(), Fault> {
-    match function {
-        "transform_point2d_homogeneous" => Solid::<T>::taken(numbers)?
-            .transform_point2d_homogeneous(Point2D::taken(numbers)?)
-            .say(line),
-        "transform_point3d_homogeneous" => Solid::<T>::taken(numbers)?
-            .transform_point3d_homogeneous(Point3D::taken(numbers)?)
-            .say(line),
-        "transform_vector2d" => Solid::<T>::taken(numbers)?
-            .transform_vector2d(Vector2D::taken(numbers)?)
-            .say(line),
-        "transform_vector3d" => Solid::<T>::taken(numbers)?
-            .transform_vector3d(Vector3D::taken(numbers)?)
-            .say(line),
-        _ => Err(Refusal::UnknownFunction.into()),
+fn ask_images<T: Orderable>(q: &mut Question<'_, T>) -> Result<(), Fault> {
+    match q.function {
+        "transform_point2d_homogeneous" => {
+            Solid::of(q)?
+                .transform_point2d_homogeneous(Point2D::of(q)?)
+                .say(q)
+        }
+        "transform_point3d_homogeneous" => {
+            Solid::of(q)?
+                .transform_point3d_homogeneous(Point3D::of(q)?)
+                .say(q)
+        }
+        "transform_vector2d" => Solid::of(q)?.transform_vector2d(Vector2D::of(q)?).say(q),
+        "transform_vector3d" => Solid::of(q)?.transform_vector3d(Vector3D::of(q)?).say(q),
+        "transform_point2d" => {
+            let q = T::ordered(q)?;
+            Solid::of(q)?.transform_point2d(Point2D::of(q)?).say(q)
+        }
+        "transform_point3d" => {
+            let q = T::ordered(q)?;
+            Solid::of(q)?.transform_point3d(Point3D::of(q)?).say(q)
+        }
+        "outer_transformed_rect" => {
+            let q = T::ordered(q)?;
+            Solid::of(q)?.outer_transformed_rect(&Rect::of(q)?).say(q)
+        }
+        "outer_transformed_box2d" => {
+            let q = T::ordered(q)?;
+            Solid::of(q)?.outer_transformed_box2d(&Box2D::of(q)?).say(q)
+        }
+        "outer_transformed_box3d" => {
+            let q = T::ordered(q)?;
+            Solid::of(q)?.outer_transformed_box3d(&Box3D::of(q)?).say(q)
+        }
+        _ => Solid::ask_any(q),
     }
 }
