@@ -2,7 +2,7 @@
 use crate::number::Orderable;
 use crate::question::Question;
 use crate::refusal::Fault;
-use crate::shapes::{Answer, Pairs, Row, Shape};
+use crate::shapes::{Answer, Row, Shape, Six};
 use crate::table::Asked;
 use geometry::types::{Box2D, Point2D, Rect, Vector2D};
 use scalar::Tag;
@@ -12,13 +12,13 @@ use transform2d::types::{ScaleOffset2D, Transform2D};
 pub type Flat<T> = Transform2D<T, Camera, Hide>;
 
 impl<T: Orderable, Src: Tag, Dst: Tag> Shape<T> for Transform2D<T, Src, Dst> {
-    type Fields = Pairs<T>;
+    type Fields = Six<T>;
 
-    fn from_fields(((m11, m12), (m21, m22), (m31, m32)): Pairs<T>) -> Self {
+    fn from_fields(((m11, m12), (m21, m22), (m31, m32)): Six<T>) -> Self {
         Transform2D::new(m11, m12, m21, m22, m31, m32)
     }
 
-    fn fields(self) -> Pairs<T> {
+    fn fields(self) -> Six<T> {
         (
             (self.m11, self.m12),
             (self.m21, self.m22),

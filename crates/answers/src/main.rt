@@ -40,20 +40,26 @@ fn answer(question: &[u8], heap: Global) -> Result<String, Fault> {
     }
 }
 
-// The words are the numbers.
+// No function takes more numbers but a `from_points`.
+const MOST_NUMBERS: usize = 32;
+
+// Some, and the 16 Reals of a Transform3D.
+const LONGEST_ANSWER: usize = 276;
+
+// The words are its numbers.
 fn answer_over<T: Orderable>(
     function: &str,
     words: SplitAsciiWhitespace<'_>,
     heap: Global,
 ) -> Result<String, Fault> {
-    let mut numbers = Vec::with_capacity(heap, 32)?;
+    let mut numbers = Vec::with_capacity(heap, MOST_NUMBERS)?;
     for word in words {
         numbers.push(T::read(word).ok_or(Refusal::BadNumber)?)?;
     }
     let mut question = Question {
         function,
         numbers: numbers.as_slice(),
-        answer: String::with_capacity(heap, 300)?,
+        answer: String::with_capacity(heap, LONGEST_ANSWER)?,
     };
     table::ask(&mut question)?;
     if question.numbers.is_empty() {

@@ -1,4 +1,4 @@
-// The five scalars as words: how each is read and written.
+// The five scalars: how each is read and written, and which have an order.
 use crate::question::Question;
 use crate::refusal::Refusal;
 use numbers::types::{Count, Real};
@@ -9,8 +9,9 @@ use std::alloc::AllocError;
 use std::fmt::Write;
 use std::num::{f64_from_bits_with_nan, f64_to_bits_with_nan};
 
+// A scalar as a word: no FromStr and no Display, since the scalars are other crates' types.
 pub trait Number: Scalar {
-    // None where the word is no number of this scalar.
+    // None where the word is none of its numbers.
     fn read(word: &str) -> Option<Self>;
 
     fn write(self, line: &mut String) -> Result<(), AllocError>;
@@ -94,10 +95,10 @@ impl Integer for Whole {
 
 // A scalar that may have an order.
 pub trait Orderable: Number {
-    // The scalar itself, where it has one.
-    type Ordered: Sorted;
+    // The scalar itself where it has an order, and else one that is never reached.
+    type Ordered: OrderedNumber;
 
-    // The question, for a function that needs an order.
+    // The question, to be answered by a function that needs an order.
     fn ordered<'q, 'a>(
         _q: &'q mut Question<'a, Self>,
     ) -> Result<&'q mut Question<'a, Self::Ordered>, Refusal> {
@@ -114,15 +115,15 @@ impl Orderable for Residue {
 }
 
 // A scalar that has one.
-pub trait Sorted: Number + Ordered {}
+pub trait OrderedNumber: Number + Ordered {}
 
-impl Sorted for Real {}
+impl OrderedNumber for Real {}
 
-impl Sorted for Pixel {}
+impl OrderedNumber for Pixel {}
 
-impl Sorted for Whole {}
+impl OrderedNumber for Whole {}
 
-impl<T: Sorted> Orderable for T {
+impl<T: OrderedNumber> Orderable for T {
     type Ordered = T;
 
     fn ordered<'q, 'a>(q: &'q mut Question<'a, T>) -> Result<&'q mut Question<'a, T>, Refusal> {

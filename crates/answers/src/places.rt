@@ -2,7 +2,7 @@
 use crate::number::Orderable;
 use crate::question::Question;
 use crate::refusal::Fault;
-use crate::shapes::{Answer, Row, Shape};
+use crate::shapes::{Answer, Four, Row, Shape};
 use crate::table::Asked;
 use geometry::types::{HomogeneousVector, Point2D, Point3D, Size2D, Vector2D, Vector3D};
 use scalar::Tag;
@@ -122,14 +122,14 @@ impl<T: Orderable, U: Tag> Shape<T> for Size2D<T, U> {
 }
 
 impl<T: Orderable, U: Tag> Shape<T> for HomogeneousVector<T, U> {
-    type Fields = (T, T, T, T);
+    type Fields = Four<T>;
 
-    fn from_fields((x, y, z, w): (T, T, T, T)) -> Self {
+    fn from_fields(((x, y), (z, w)): Four<T>) -> Self {
         HomogeneousVector::new(x, y, z, w)
     }
 
-    fn fields(self) -> (T, T, T, T) {
-        (self.x, self.y, self.z, self.w)
+    fn fields(self) -> Four<T> {
+        ((self.x, self.y), (self.z, self.w))
     }
 
     fn same(&self, other: &Self) -> bool {
@@ -146,15 +146,11 @@ impl<T: Orderable> Asked<T> for HomogeneousVector<T, Camera> {
             "from_Point3D" => Self::from(Point3D::of(q)?).say(q),
             "to_point2d" => {
                 let q = T::ordered(q)?;
-                HomogeneousVector::<T::Ordered, Camera>::of(q)?
-                    .to_point2d()
-                    .say(q)
+                HomogeneousVector::<_, Camera>::of(q)?.to_point2d().say(q)
             }
             "to_point3d" => {
                 let q = T::ordered(q)?;
-                HomogeneousVector::<T::Ordered, Camera>::of(q)?
-                    .to_point3d()
-                    .say(q)
+                HomogeneousVector::<_, Camera>::of(q)?.to_point3d().say(q)
             }
             _ => Self::ask_any(q),
         }

@@ -5,7 +5,7 @@ use crate::shapes::Shape;
 
 #[derive(Drop)]
 pub struct Question<'a, T> {
-    // Once its table is found, without the type's name.
+    // Its name: without its type's, once the table is found.
     pub function: &'a str,
     // Those that are not taken yet.
     pub numbers: &'a [T],
@@ -22,6 +22,7 @@ impl<'a, T: Orderable> Question<'a, T> {
         Ok(*number)
     }
 
+    // The next ones.
     pub fn shapes<S: Shape<T>>(&mut self, count: usize) -> Result<Vec<S>, Fault> {
         let mut all = Vec::new(*self.answer.allocator());
         for _ in 0..count {

@@ -2,20 +2,20 @@
 use crate::number::Orderable;
 use crate::question::Question;
 use crate::refusal::Fault;
-use crate::shapes::{Answer, Shape};
+use crate::shapes::{Answer, Four, Shape};
 use crate::table::Asked;
 use geometry::types::{Box2D, Box3D, Point2D, Point3D, Rect, Size2D};
 use scalar::Tag;
 use spaces::Camera;
 
 impl<T: Orderable, U: Tag> Shape<T> for Rect<T, U> {
-    type Fields = ((T, T), (T, T));
+    type Fields = Four<T>;
 
-    fn from_fields((origin, size): ((T, T), (T, T))) -> Self {
+    fn from_fields((origin, size): Four<T>) -> Self {
         Rect::new(Point2D::from_fields(origin), Size2D::from_fields(size))
     }
 
-    fn fields(self) -> ((T, T), (T, T)) {
+    fn fields(self) -> Four<T> {
         (self.origin.fields(), self.size.fields())
     }
 
@@ -32,9 +32,8 @@ impl<T: Orderable> Asked<T> for Rect<T, Camera> {
             "to_box2d" => Self::of(q)?.to_box2d().say(q),
             "from_points" => {
                 let q = T::ordered(q)?;
-                Rect::<T::Ordered, Camera>::from_points(
-                    q.shapes(q.numbers.len().div_ceil(2))?.as_slice(),
-                ).say(q)
+                let points = q.shapes(q.numbers.len().div_ceil(2))?;
+                Rect::<_, Camera>::from_points(points.as_slice()).say(q)
             }
             _ => Self::ask_any(q),
         }
@@ -42,13 +41,13 @@ impl<T: Orderable> Asked<T> for Rect<T, Camera> {
 }
 
 impl<T: Orderable, U: Tag> Shape<T> for Box2D<T, U> {
-    type Fields = ((T, T), (T, T));
+    type Fields = Four<T>;
 
-    fn from_fields((min, max): ((T, T), (T, T))) -> Self {
+    fn from_fields((min, max): Four<T>) -> Self {
         Box2D::new(Point2D::from_fields(min), Point2D::from_fields(max))
     }
 
-    fn fields(self) -> ((T, T), (T, T)) {
+    fn fields(self) -> Four<T> {
         (self.min.fields(), self.max.fields())
     }
 
@@ -65,9 +64,8 @@ impl<T: Orderable> Asked<T> for Box2D<T, Camera> {
             "to_rect" => Self::of(q)?.to_rect().say(q),
             "from_points" => {
                 let q = T::ordered(q)?;
-                Box2D::<T::Ordered, Camera>::from_points(
-                    q.shapes(q.numbers.len().div_ceil(2))?.as_slice(),
-                ).say(q)
+                let points = q.shapes(q.numbers.len().div_ceil(2))?;
+                Box2D::<_, Camera>::from_points(points.as_slice()).say(q)
             }
             _ => Self::ask_any(q),
         }
@@ -96,9 +94,8 @@ impl<T: Orderable> Asked<T> for Box3D<T, Camera> {
             "zero" => Self::zero().say(q),
             "from_points" => {
                 let q = T::ordered(q)?;
-                Box3D::<T::Ordered, Camera>::from_points(
-                    q.shapes(q.numbers.len().div_ceil(3))?.as_slice(),
-                ).say(q)
+                let points = q.shapes(q.numbers.len().div_ceil(3))?;
+                Box3D::<_, Camera>::from_points(points.as_slice()).say(q)
             }
             _ => Self::ask_any(q),
         }

@@ -22,7 +22,8 @@ pub enum Refusal {
     TooManyNumbers,
 }
 
-// What ends a question: a refusal, which is its answer, or want of memory, which ends the program. An enum and no Option, since `?` makes it of either.
+// What ends a question: a refusal, which is its answer, or want of memory, which ends the program.
+// An enum and no Option, since `?` makes it of either error.
 #[derive(Debug, Drop, Error)]
 pub enum Fault {
     #[error(transparent)]

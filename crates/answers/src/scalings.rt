@@ -2,7 +2,7 @@
 use crate::number::Orderable;
 use crate::question::Question;
 use crate::refusal::Fault;
-use crate::shapes::{Answer, Shape};
+use crate::shapes::{Answer, Four, Shape};
 use crate::table::Asked;
 use geometry::types::{Box2D, Point2D, Rect, Vector2D};
 use scalar::Tag;
@@ -12,14 +12,14 @@ use transform2d::types::ScaleOffset2D;
 pub type Scaling<T> = ScaleOffset2D<T, Camera, Hide>;
 
 impl<T: Orderable, Src: Tag, Dst: Tag> Shape<T> for ScaleOffset2D<T, Src, Dst> {
-    type Fields = (T, T, T, T);
+    type Fields = Four<T>;
 
-    fn from_fields((sx, sy, tx, ty): (T, T, T, T)) -> Self {
+    fn from_fields(((sx, sy), (tx, ty)): Four<T>) -> Self {
         ScaleOffset2D::new(sx, sy, tx, ty)
     }
 
-    fn fields(self) -> (T, T, T, T) {
-        (self.sx, self.sy, self.tx, self.ty)
+    fn fields(self) -> Four<T> {
+        ((self.sx, self.sy), (self.tx, self.ty))
     }
 
     fn same(&self, other: &Self) -> bool {

@@ -1,14 +1,14 @@
-// What stands in questions and answers.
+// What stands in questions and answers: numbers, the types that stand as numbers, and what else can be answered.
 use crate::number::Orderable;
 use crate::question::Question;
 use crate::refusal::{Fault, Refusal};
 
-// A number, or a tuple of such.
+// A number, or a tuple of rows.
 pub trait Row<T>: Copy {
     // The next of the question's.
     fn of(q: &mut Question<'_, T>) -> Result<Self, Refusal>;
 
-    // Adds it to the answer, after a blank but at the start.
+    // Adds it to the answer, each number after a blank but at the start.
     fn say(self, q: &mut Question<'_, T>) -> Result<(), Fault>;
 }
 
@@ -47,21 +47,13 @@ impl<T, A: Row<T>, B: Row<T>, C: Row<T>> Row<T> for (A, B, C) {
     }
 }
 
-impl<T, A: Row<T>, B: Row<T>, C: Row<T>, D: Row<T>> Row<T> for (A, B, C, D) {
-    fn of(q: &mut Question<'_, T>) -> Result<(A, B, C, D), Refusal> {
-        Ok((A::of(q)?, B::of(q)?, C::of(q)?, D::of(q)?))
-    }
+pub type Four<T> = ((T, T), (T, T));
 
-    fn say(self, q: &mut Question<'_, T>) -> Result<(), Fault> {
-        let (a, b, c, d) = self;
-        ((a, b), (c, d)).say(q)
-    }
-}
+pub type Six<T> = ((T, T), (T, T), (T, T));
 
-// Six numbers.
-pub type Pairs<T> = ((T, T), (T, T), (T, T));
+pub type Sixteen<T> = ((Four<T>, Four<T>), (Four<T>, Four<T>));
 
-// A type that stands as its fields, in order.
+// A type of the transforms, which stands as the numbers in its fields, in order.
 pub trait Shape<T: Orderable>: Copy {
     type Fields: Row<T>;
 
@@ -72,21 +64,21 @@ pub trait Shape<T: Orderable>: Copy {
     // The type's own equality.
     fn same(&self, other: &Self) -> bool;
 
-    // The functions of every type.
-    final fn ask_any(q: &mut Question<'_, T>) -> Result<(), Fault> {
-        match q.function {
-            "new" => Self::of(q)?.say(q),
-            "eq" => Self::of(q)?.same(&Self::of(q)?).say(q),
-            _ => Err(Refusal::UnknownFunction.into()),
-        }
-    }
-
     fn of(q: &mut Question<'_, T>) -> Result<Self, Refusal> {
         Ok(Self::from_fields(Self::Fields::of(q)?))
     }
 
     fn say(self, q: &mut Question<'_, T>) -> Result<(), Fault> {
         self.fields().say(q)
+    }
+
+    // The functions of every such type.
+    final fn ask_any(q: &mut Question<'_, T>) -> Result<(), Fault> {
+        match q.function {
+            "new" => Self::of(q)?.say(q),
+            "eq" => Self::of(q)?.same(&Self::of(q)?).say(q),
+            _ => Err(Refusal::UnknownFunction.into()),
+        }
     }
 }
 

@@ -2,7 +2,7 @@
 use crate::number::Orderable;
 use crate::question::Question;
 use crate::refusal::Fault;
-use crate::shapes::{Answer, Pairs, Row, Shape};
+use crate::shapes::{Answer, Row, Shape, Six, Sixteen};
 use crate::table::Asked;
 use geometry::types::{Box2D, Box3D, Point2D, Point3D, Rect, Vector2D, Vector3D};
 use scalar::{Ordered, Tag};
@@ -11,29 +11,27 @@ use transform2d::between::Planar;
 use transform2d::types::Transform2D;
 use transform3d::types::Transform3D;
 
-type Four<T> = (T, T, T, T);
-
-type Matrix<T> = (Four<T>, Four<T>, Four<T>, Four<T>);
-
 pub type Solid<T> = Transform3D<T, Camera, Hide>;
 
 impl<T: Orderable, Src: Tag, Dst: Tag> Shape<T> for Transform3D<T, Src, Dst> {
-    type Fields = Matrix<T>;
+    type Fields = Sixteen<T>;
 
-    fn from_fields((r1, r2, r3, r4): Matrix<T>) -> Self {
+    fn from_fields(((row1, row2), (row3, row4)): Sixteen<T>) -> Self {
+        let ((m11, m12), (m13, m14)) = row1;
+        let ((m21, m22), (m23, m24)) = row2;
+        let ((m31, m32), (m33, m34)) = row3;
+        let ((m41, m42), (m43, m44)) = row4;
         Transform3D::new(
-            r1.0, r1.1, r1.2, r1.3, r2.0, r2.1, r2.2, r2.3, r3.0, r3.1, r3.2, r3.3, r4.0, r4.1,
-            r4.2, r4.3,
+            m11, m12, m13, m14, m21, m22, m23, m24, m31, m32, m33, m34, m41, m42, m43, m44,
         )
     }
 
-    fn fields(self) -> Matrix<T> {
-        (
-            (self.m11, self.m12, self.m13, self.m14),
-            (self.m21, self.m22, self.m23, self.m24),
-            (self.m31, self.m32, self.m33, self.m34),
-            (self.m41, self.m42, self.m43, self.m44),
-        )
+    fn fields(self) -> Sixteen<T> {
+        let row1 = ((self.m11, self.m12), (self.m13, self.m14));
+        let row2 = ((self.m21, self.m22), (self.m23, self.m24));
+        let row3 = ((self.m31, self.m32), (self.m33, self.m34));
+        let row4 = ((self.m41, self.m42), (self.m43, self.m44));
+        ((row1, row2), (row3, row4))
     }
 
     fn same(&self, other: &Self) -> bool {
@@ -45,7 +43,7 @@ impl<T: Orderable> Asked<T> for Transform3D<T, Camera, Hide> {
     fn ask(q: &mut Question<'_, T>) -> Result<(), Fault> {
         match q.function {
             "new_2d" => {
-                let ((m11, m12), (m21, m22), (m41, m42)) = Pairs::of(q)?;
+                let ((m11, m12), (m21, m22), (m41, m42)) = Six::of(q)?;
                 Self::new_2d(m11, m12, m21, m22, m41, m42).say(q)
             }
             "identity" => Self::identity().say(q),
@@ -53,7 +51,7 @@ impl<T: Orderable> Asked<T> for Transform3D<T, Camera, Hide> {
             "scale" => Self::scale(q.number()?, q.number()?, q.number()?).say(q),
             "perspective" => Self::perspective(q.number()?).say(q),
             "ortho" => {
-                let ((left, right), (bottom, top), (near, far)) = Pairs::of(q)?;
+                let ((left, right), (bottom, top), (near, far)) = Six::of(q)?;
                 Self::ortho(left, right, bottom, top, near, far).say(q)
             }
             "from_Transform2D" => Self::from(Transform2D::of(q)?).say(q),
@@ -75,11 +73,9 @@ fn ask_more<T: Orderable>(q: &mut Question<'_, T>) -> Result<(), Fault> {
         "then" => Solid::of(q)?.then::<Beam>(&Transform3D::of(q)?).say(q),
         "then_translate" => Solid::of(q)?.then_translate(Vector3D::of(q)?).say(q),
         "pre_translate" => Solid::of(q)?.pre_translate(Vector3D::of(q)?).say(q),
-        "then_scale" => {
-            Solid::of(q)?
-                .then_scale(q.number()?, q.number()?, q.number()?)
-                .say(q)
-        }
+        "then_scale" => Solid::of(q)?
+            .then_scale(q.number()?, q.number()?, q.number()?)
+            .say(q),
         "pre_scale" => Solid::of(q)?
             .pre_scale(q.number()?, q.number()?, q.number()?)
             .say(q),
@@ -101,16 +97,12 @@ fn ask_more<T: Orderable>(q: &mut Question<'_, T>) -> Result<(), Fault> {
 
 fn ask_images<T: Orderable>(q: &mut Question<'_, T>) -> Result<(), Fault> {
     match q.function {
-        "transform_point2d_homogeneous" => {
-            Solid::of(q)?
-                .transform_point2d_homogeneous(Point2D::of(q)?)
-                .say(q)
-        }
-        "transform_point3d_homogeneous" => {
-            Solid::of(q)?
-                .transform_point3d_homogeneous(Point3D::of(q)?)
-                .say(q)
-        }
+        "transform_point2d_homogeneous" => Solid::of(q)?
+            .transform_point2d_homogeneous(Point2D::of(q)?)
+            .say(q),
+        "transform_point3d_homogeneous" => Solid::of(q)?
+            .transform_point3d_homogeneous(Point3D::of(q)?)
+            .say(q),
         "transform_vector2d" => Solid::of(q)?.transform_vector2d(Vector2D::of(q)?).say(q),
         "transform_vector3d" => Solid::of(q)?.transform_vector3d(Vector3D::of(q)?).say(q),
         "transform_point2d" => {

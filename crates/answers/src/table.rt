@@ -1,4 +1,5 @@
-// Which table answers a question. A table is a match on the function's name, since no two of its rows take and give the same types, as closures in a list would have to.
+// Which table answers a question.
+// A table is a match on the function's name: a list of names and closures has the same rows, and needs a search besides.
 use crate::flats::Flat;
 use crate::number::Orderable;
 use crate::question::Question;
@@ -15,7 +16,7 @@ use geometry::vector::{vec2, vec3};
 use scalar::Ordered;
 use spaces::Camera;
 
-// A type that has functions of its own.
+// A type with a table.
 pub trait Asked<T> {
     fn ask(q: &mut Question<'_, T>) -> Result<(), Fault>;
 }
