@@ -2,7 +2,8 @@
 use crate::question::Question;
 use crate::refusal::Refusal;
 use numbers::types::{Count, Real};
-use pixels::types::{Pixel, Whole};
+use pixels::measure::Measure;
+use pixels::types::{Clamped, Whole};
 use residues::types::Residue;
 use scalar::{Ordered, Scalar};
 use std::alloc::AllocError;
@@ -73,19 +74,9 @@ impl Integer for Residue {
     }
 }
 
-impl Integer for Pixel {
-    fn of(value: i32) -> Pixel {
-        Pixel { value }
-    }
-
-    fn value(self) -> i32 {
-        self.value
-    }
-}
-
-impl Integer for Whole {
-    fn of(value: i32) -> Whole {
-        Whole { value }
+impl<M: Measure> Integer for Clamped<M> {
+    fn of(value: i32) -> Clamped<M> {
+        Clamped::from(value)
     }
 
     fn value(self) -> i32 {
@@ -119,9 +110,7 @@ pub trait OrderedNumber: Number + Ordered {}
 
 impl OrderedNumber for Real {}
 
-impl OrderedNumber for Pixel {}
-
-impl OrderedNumber for Whole {}
+impl<M: Measure> OrderedNumber for Clamped<M> {}
 
 impl<T: OrderedNumber> Orderable for T {
     type Ordered = T;
