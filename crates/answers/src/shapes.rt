@@ -61,7 +61,7 @@ pub trait Shape<T: Orderable>: Copy {
 
     fn fields(self) -> Self::Fields;
 
-    // The type's own equality.
+    // The type's own equality, which is a function of each.
     fn same(&self, other: &Self) -> bool;
 
     fn of(q: &mut Question<'_, T>) -> Result<Self, Refusal> {

@@ -51,6 +51,7 @@ pub struct Box2D<T, U> {
     pub max: Point2D<T, U>,
 }
 
+// Not one type with Box2D over its corner, which would need three traits, for equality, zero and order, of two impls each.
 #[derive(Clone, Copy)]
 pub struct Box3D<T, U> {
     pub min: Point3D<T, U>,

@@ -25,6 +25,7 @@ pub enum Fault {
     Frame(FrameFault),
 }
 
+// By hand, since a derived From promises nothing of its result.
 impl From<ReaderFault> for Fault {
     ghost from_gives = { λ e r. r ≡ FromReader e };
 

@@ -11,6 +11,7 @@ pub enum Layer {
     Frame,
 }
 
+// The number is what the users know the refusal by.
 #[derive(Clone, Copy)]
 pub struct Notice {
     pub layer: Layer,

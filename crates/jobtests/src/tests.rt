@@ -44,7 +44,7 @@ fn put_number(bytes: &mut Vec<u8>, num: i32, den: u16) -> Result<(), AllocError>
     bytes.extend_from_slice(&den.to_le_bytes())
 }
 
-// A section of `n` items of the code, if there is one, and `numbers` numbers, each -1/65520.
+// A section of `n` items of the code, the byte that the file has if there is one, and `numbers` numbers, each -1/65520.
 fn put_section(
     bytes: &mut Vec<u8>,
     n: u16,

@@ -1,5 +1,7 @@
 // The transforms of the plane, by their fields. `src` and `dst` hold the one value of the space that is left and of the one that is reached.
 
+// Each kind of transform has its functions in a text of its own, by euclid's names: a struct cannot be generic over which entries it has.
+
 // A scale of each axis, then an offset.
 #[derive(Clone, Copy)]
 pub struct ScaleOffset2D<T, Src, Dst> {
