@@ -30,6 +30,13 @@ module _ {S U : Type 0} where
 module _ {S U : Type 0} (o : Ops S) where
   open o use {add, sub, div, eq, zero as 𝟘, one as 𝟙}
 
+  -- the point all of whose coordinates are zero
+  abbrev pub origin2 : U → Point2D S U
+  origin2 u = point2 𝟘 𝟘 u
+
+  abbrev pub origin3 : U → Point3D S U
+  origin3 u = point3 𝟘 𝟘 𝟘 u
+
   -- a point moved by a size, and the vector from one point to another
   abbrev pub point_add : Point2D S U → Size2D S U → Point2D S U
   point_add p s = point2 (add p.x s.width) (add p.y s.height) p.unit

@@ -1,7 +1,7 @@
 // Boxes of the plane, by their minimum and maximum.
 ghost use Rattle.std.specs.Prelude.{◌≡◌};
 ghost use Rattle.geometry.specs.Boxes.{box2, box_size, box_rect, grown2, box_of2, eq_boxes2};
-ghost use Rattle.geometry.specs.Points.{point2 as point2_of};
+ghost use Rattle.geometry.specs.Points.{origin2};
 
 use crate::order::{larger, smaller};
 use crate::types::{Box2D, Point2D, Rect, Size2D};
@@ -41,7 +41,7 @@ impl<T: Scalar, U: Copy> Box2D<T, U> {
 
 impl<T: Scalar, U: Tag> Box2D<T, U> {
     pub fn zero() -> Box2D<T, U>
-        ensures { result ≡ box2 (point2_of T.ops.zero T.ops.zero U.label) (point2_of T.ops.zero T.ops.zero U.label) }
+        ensures { result ≡ box2 (origin2 T.ops U.label) (origin2 T.ops U.label) }
     {
         Box2D::new(Point2D::zero(), Point2D::zero())
     }

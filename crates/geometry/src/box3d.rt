@@ -1,7 +1,7 @@
 // Boxes of space, by their minimum and maximum.
 ghost use Rattle.std.specs.Prelude.{◌≡◌};
 ghost use Rattle.geometry.specs.Boxes.{box3, grown3, box_of3, eq_boxes3};
-ghost use Rattle.geometry.specs.Points.{point3 as point3_of};
+ghost use Rattle.geometry.specs.Points.{origin3};
 
 use crate::order::{larger, smaller};
 use crate::types::{Box3D, Point3D};
@@ -26,7 +26,7 @@ impl<T: Scalar, U: Copy> Box3D<T, U> {
 
 impl<T: Scalar, U: Tag> Box3D<T, U> {
     pub fn zero() -> Box3D<T, U>
-        ensures { result ≡ box3 (point3_of T.ops.zero T.ops.zero T.ops.zero U.label) (point3_of T.ops.zero T.ops.zero T.ops.zero U.label) }
+        ensures { result ≡ box3 (origin3 T.ops U.label) (origin3 T.ops U.label) }
     {
         Box3D::new(Point3D::zero(), Point3D::zero())
     }

@@ -1,4 +1,4 @@
-// Points, vectors, sizes, rectangles, boxes and homogeneous vectors, in modules named as euclid names them, and functions too, conversions among them.
+// Points, vectors, sizes, rectangles, boxes and homogeneous vectors. Modules and functions, conversions too, have euclid's names.
 // Each type is generic over its scalar and over the space that its coordinates are taken in, of which it holds the one value.
 #![tactic(auto)]
 

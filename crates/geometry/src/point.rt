@@ -1,6 +1,6 @@
 // Points of the plane and of space.
 ghost use Rattle.std.specs.Prelude.{◌≡◌};
-ghost use Rattle.geometry.specs.Points.{point2 as point2_of, point3 as point3_of, point_add, point_sub, eq_points2, eq_points3};
+ghost use Rattle.geometry.specs.Points.{point2 as point2_of, point3 as point3_of, origin2, origin3, point_add, point_sub, eq_points2, eq_points3};
 
 use crate::types::{Point2D, Point3D, Size2D, Vector2D};
 use scalar::{Scalar, Tag};
@@ -26,14 +26,14 @@ pub fn point2<T, U: Tag>(x: T, y: T) -> Point2D<T, U>
 
 impl<T: Scalar, U: Tag> Point2D<T, U> {
     pub fn origin() -> Point2D<T, U>
-        ensures { result ≡ point2_of T.ops.zero T.ops.zero U.label }
+        ensures { result ≡ origin2 T.ops U.label }
     {
         point2(T::zero(), T::zero())
     }
 
     // The same as `origin`.
     pub fn zero() -> Point2D<T, U>
-        ensures { result ≡ point2_of T.ops.zero T.ops.zero U.label }
+        ensures { result ≡ origin2 T.ops U.label }
     {
         Point2D::origin()
     }
@@ -100,14 +100,14 @@ pub fn point3<T, U: Tag>(x: T, y: T, z: T) -> Point3D<T, U>
 
 impl<T: Scalar, U: Tag> Point3D<T, U> {
     pub fn origin() -> Point3D<T, U>
-        ensures { result ≡ point3_of T.ops.zero T.ops.zero T.ops.zero U.label }
+        ensures { result ≡ origin3 T.ops U.label }
     {
         point3(T::zero(), T::zero(), T::zero())
     }
 
     // The same as `origin`.
     pub fn zero() -> Point3D<T, U>
-        ensures { result ≡ point3_of T.ops.zero T.ops.zero T.ops.zero U.label }
+        ensures { result ≡ origin3 T.ops U.label }
     {
         Point3D::origin()
     }

@@ -39,7 +39,7 @@ impl<'a> Cursor<'a> {
         self.at
     }
 
-    // The next `K` bytes, for the item that begins at `item`.
+    // The next `K` bytes, for the item that begins at `item`: a fault names that place, and not the cursor's.
     fn bytes<const K: usize>(self, item: usize) -> Result<([u8; K], Cursor<'a>), ReaderFault>
         ensures { MatchResult result (λ p. Reads p.0 self.entry p.1 × (length p.0 ≡ K)) (λ f. (f ≡ ReaderFault.Short item) × (length self.entry.rest.now < K)) }
     {

@@ -1,5 +1,6 @@
 // The memory of a job.
 ghost use Rattle.std.specs.Prelude.{◌≡◌, ◌≤◌, [], IfOk, vec_len, vec_capacity};
+ghost use Rattle.jobfile.specs.declared.parts.TheConstants.{MOST_STEPS, MOST_POINTS, MOST_FRAMES};
 
 use jobfile::parts::{Frame, MOST_FRAMES, MOST_POINTS, MOST_STEPS, Point, Step};
 use std::alloc::{AllocError, Global};
@@ -13,9 +14,9 @@ pub struct Space {
     ghost no_step: { vec_len steps ≡ 0 },
     ghost no_point: { vec_len points ≡ 0 },
     ghost no_frame: { vec_len frames ≡ 0 },
-    ghost steps_room: { 256 ≤ vec_capacity steps },
-    ghost points_room: { 1024 ≤ vec_capacity points },
-    ghost frames_room: { 256 ≤ vec_capacity frames },
+    ghost steps_room: { MOST_STEPS ≤ vec_capacity steps },
+    ghost points_room: { MOST_POINTS ≤ vec_capacity points },
+    ghost frames_room: { MOST_FRAMES ≤ vec_capacity frames },
 }
 
 impl Space {

@@ -19,6 +19,7 @@ pub struct Notice {
     pub place: usize,
 }
 
+// By hand, so that its clause states the notice.
 impl From<Fault> for Notice {
     ghost from_gives = { λ fault notice. notice ≡ printed fault };
 
@@ -39,6 +40,7 @@ impl From<Fault> for Notice {
     }
 }
 
+// By hand, as the next, so that its clause states the bytes.
 impl fmt::Display for Layer {
     ghost output = { λ layer. Some (layer_text layer) };
 

@@ -44,7 +44,7 @@ fn put_number(bytes: &mut Vec<u8>, num: i32, den: u16) -> Result<(), AllocError>
     bytes.extend_from_slice(&den.to_le_bytes())
 }
 
-// A section of `n` items of the code, the byte that the file has if there is one, and `numbers` numbers, each -1/65520.
+// A section of `n` items, each of the code, if there is one, and of `numbers` numbers, each -1/65520. A code is its byte: the reader's enum is its own.
 fn put_section(
     bytes: &mut Vec<u8>,
     n: u16,
@@ -116,6 +116,7 @@ fn item_at(n: usize) -> usize {
 #[test]
 fn a_file_cut_anywhere_is_too_short_where_the_cut_item_begins(rt: HostRuntime) -> Result<(), Fail> {
     let heap = rt.alloc();
+    // Each length, not each byte.
     for n in 0..SAMPLE.len() {
         let place = item_at(n);
         let text = format!(in heap; "REFUSED reader 1 {place}\n")?;

@@ -12,6 +12,7 @@ pub struct Clamped<M> {
     ghost fits: { mag value < 2 ^ 31 },
 }
 
+// By hand, since neither can be derived for a generic struct with a ghost field.
 impl<M> Clone for Clamped<M> {
     ghost is_clone = { λ a b. a ≡ b };
 

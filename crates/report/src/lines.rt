@@ -83,8 +83,8 @@ impl Page {
 
     // A line for each item.
     pub fn put_lines<L: Line>(&mut self, items: &[L])
-        requires { L.width * length items.now ≤ self.old.room }
-        ensures { Adds self.old self.new (lines L.text 0 items.now) (L.width * length items.now) }
+        requires { L.WIDTH * length items.now ≤ self.old.room }
+        ensures { Adds self.old self.new (lines L.text 0 items.now) (L.WIDTH * length items.now) }
     {
         for (i, item) in items.iter().enumerate() {
             item.put_line(self, i);
@@ -92,22 +92,27 @@ impl Page {
     }
 }
 
-// What has a line of its own, of at most `width` bytes.
+// What has a line of its own.
 pub trait Line: Sized {
+    // The most bytes that it takes.
+    const WIDTH: usize;
+
     ghost text: { ℕ → Self → List ℕ };
 
-    ghost width: { ℕ };
+    ghost WIDTH: { ℕ };
 
     // Adds the line of `self`, whose index is `i`, to `page`.
     fn put_line(&self, page: &mut Page, i: usize)
-        requires { width ≤ page.old.room }
-        ensures { Adds page.old page.new (text i self.now) width };
+        requires { WIDTH ≤ page.old.room }
+        ensures { Adds page.old page.new (text i self.now) WIDTH };
 }
 
 impl Line for Step {
+    const WIDTH: usize = 238;
+
     ghost text = { step_line };
 
-    ghost width = { 238 };
+    ghost WIDTH = { 238 };
 
     fn put_line(&self, page: &mut Page, i: usize) {
         page.put_head("step ", i);
@@ -118,9 +123,11 @@ impl Line for Step {
 }
 
 impl Line for Point {
+    const WIDTH: usize = 63;
+
     ghost text = { point_line };
 
-    ghost width = { 63 };
+    ghost WIDTH = { 63 };
 
     fn put_line(&self, page: &mut Page, i: usize) {
         page.put_number_line::<Residue>("point ", i, &[self.x, self.y, self.z]);
@@ -128,9 +135,11 @@ impl Line for Point {
 }
 
 impl Line for Frame {
+    const WIDTH: usize = 75;
+
     ghost text = { frame_line };
 
-    ghost width = { 75 };
+    ghost WIDTH = { 75 };
 
     fn put_line(&self, page: &mut Page, i: usize) {
         page.put_number_line::<Pixel>(

@@ -9,7 +9,7 @@ ghost use Rattle.scalar.specs.Ops.{Ops};
 
 // A number type with one fixed meaning for each operation, none of which refuses.
 pub trait Scalar: Copy {
-    // How the scalar stands in a list of vectors.
+    // How the scalar stands in a list of vectors. It is any type and has no default, so each scalar says its own way there and back.
     type Plain: Copy;
 
     ghost ops: { Ops Self };
@@ -39,7 +39,7 @@ pub trait Scalar: Copy {
     fn div(self, other: Self) -> Self
         ensures { result ≡ ops.div self other };
 
-    // Not PartialEq, whose laws a scalar need not keep.
+    // Not PartialEq, whose laws a scalar need not keep. No default body sees the field that it compares.
     fn eq(self, other: Self) -> bool
         ensures { result ≡ ops.eq self other };
 

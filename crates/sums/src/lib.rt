@@ -84,7 +84,7 @@ pub fn even<T: Scalar>(a: Row3<T>, b: Row3<T>, c: Row3<T>) -> T
         .add(prod3(a.0, b.1, c.2))
 }
 
-// The same with the signs of an odd place.
+// The same with the signs of an odd place. It is not `even` negated: the signs of zeros and what clamps differ.
 pub fn odd<T: Scalar>(a: Row3<T>, b: Row3<T>, c: Row3<T>) -> T
     ensures { result ≡ odd_of T.ops a b c }
 {

@@ -1,4 +1,4 @@
-// Transforms of the plane, and the ways between the three kinds of transform.
+// Transforms of the plane, and the ways between the three kinds of transform. Functions have euclid's names, and take entries apart where it does.
 #![tactic(auto)]
 
 pub mod between;

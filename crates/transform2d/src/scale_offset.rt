@@ -201,19 +201,19 @@ impl<T: Copy, Src: Copy, Dst: Copy> ScaleOffset2D<T, Src, Dst> {
     }
 
     pub fn with_source<NewSrc: Tag>(&self) -> ScaleOffset2D<T, NewSrc, Dst>
-        ensures { result ≡ (let m = self.now in scale_offset m.sx m.sy m.tx m.ty NewSrc.label m.dst) }
+        ensures { result ≡ re_tagged self.now NewSrc.label self.now.dst }
     {
         self.between(NewSrc::tag(), self.dst)
     }
 
     pub fn with_destination<NewDst: Tag>(&self) -> ScaleOffset2D<T, Src, NewDst>
-        ensures { result ≡ (let m = self.now in scale_offset m.sx m.sy m.tx m.ty m.src NewDst.label) }
+        ensures { result ≡ re_tagged self.now self.now.src NewDst.label }
     {
         self.between(self.src, NewDst::tag())
     }
 
     pub fn to_untyped(&self) -> ScaleOffset2D<T, UnknownUnit, UnknownUnit>
-        ensures { result ≡ (let m = self.now in scale_offset m.sx m.sy m.tx m.ty (record {}) (record {})) }
+        ensures { result ≡ re_tagged self.now (record {}) (record {}) }
     {
         self.between(UnknownUnit, UnknownUnit)
     }
@@ -221,7 +221,7 @@ impl<T: Copy, Src: Copy, Dst: Copy> ScaleOffset2D<T, Src, Dst> {
 
 impl<T: Copy, Src: Tag, Dst: Tag> ScaleOffset2D<T, Src, Dst> {
     pub fn from_untyped(m: ScaleOffset2D<T, UnknownUnit, UnknownUnit>) -> ScaleOffset2D<T, Src, Dst>
-        ensures { result ≡ scale_offset m.sx m.sy m.tx m.ty Src.label Dst.label }
+        ensures { result ≡ re_tagged m Src.label Dst.label }
     {
         m.between(Src::tag(), Dst::tag())
     }

@@ -1,4 +1,4 @@
-// Transforms of space.
+// Transforms of space. Functions have euclid's names, and take entries apart where it does.
 #![tactic(auto)]
 
 pub mod images;
