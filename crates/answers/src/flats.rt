@@ -49,6 +49,7 @@ impl<T: Orderable> Asked<T> for Transform2D<T, Camera, Hide> {
     }
 }
 
+// The rest of the table, so that each part fits on a screen.
 fn ask_more<T: Orderable>(q: &mut Question<'_, T>) -> Result<(), Fault> {
     match q.function {
         "then" => Flat::of(q)?.then::<Beam>(&Transform2D::of(q)?).say(q),

@@ -46,7 +46,7 @@ const MOST_NUMBERS: usize = 32;
 // Some, and the 16 Reals of a Transform3D.
 const LONGEST_ANSWER: usize = 276;
 
-// The words are its numbers.
+// Answers what the function of this name answers for the numbers that the words are.
 fn answer_over<T: Orderable>(
     function: &str,
     words: SplitAsciiWhitespace<'_>,

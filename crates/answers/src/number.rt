@@ -105,7 +105,7 @@ impl Orderable for Residue {
     type Ordered = Whole;
 }
 
-// A scalar that has one.
+// A scalar that has an order.
 pub trait OrderedNumber: Number + Ordered {}
 
 impl OrderedNumber for Real {}

@@ -22,7 +22,7 @@ impl<'a, T: Orderable> Question<'a, T> {
         Ok(*number)
     }
 
-    // The next ones.
+    // The next shapes, as many as are asked for: it takes numbers in turn and walks no list by an index.
     pub fn shapes<S: Shape<T>>(&mut self, count: usize) -> Result<Vec<S>, Fault> {
         let mut all = Vec::new(*self.answer.allocator());
         for _ in 0..count {

@@ -44,6 +44,7 @@ impl<T: Orderable> Asked<T> for ScaleOffset2D<T, Camera, Hide> {
     }
 }
 
+// The rest of the table, so that each part fits on a screen.
 fn ask_more<T: Orderable>(q: &mut Question<'_, T>) -> Result<(), Fault> {
     match q.function {
         "then" => Scaling::of(q)?.then::<Beam>(&ScaleOffset2D::of(q)?).say(q),

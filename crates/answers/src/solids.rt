@@ -66,6 +66,7 @@ impl<T: Orderable> Asked<T> for Transform3D<T, Camera, Hide> {
     }
 }
 
+// The rest of the table, in two parts, so that each fits on a screen.
 fn ask_more<T: Orderable>(q: &mut Question<'_, T>) -> Result<(), Fault> {
     match q.function {
         "is_2d" => Solid::of(q)?.is_2d().say(q),

@@ -8,7 +8,7 @@ use std::marker::PhantomData;
 // An integer that is clamped at the ends of i32. `M` says what it counts.
 pub struct Clamped<M> {
     pub value: i32,
-    pub(crate) measure: PhantomData<M>,
+    pub measure: PhantomData<M>,
     ghost fits: { mag value < 2 ^ 31 },
 }
 

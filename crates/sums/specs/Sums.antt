@@ -12,7 +12,7 @@ module _ {S : Type 0} (o : Ops S) where
   products_added s (a ∷ row) (b ∷ column) = products_added (s ⊕ a ⊗ b) row column
   products_added s _ _ = s
 
-  -- a1 b1 + a2 b2 + .., from the left: no zero comes before the first product. Zero where there is no pair.
+  -- a1 b1 + a2 b2 + .., from the left: no zero comes before the first product. Zero where there is no pair; what one list has more than the other is left out, but each `Row` multiplies rows of one length.
   abbrev pub dot : List S → List S → S
   dot (a ∷ row) (b ∷ column) = products_added (a ⊗ b) row column
   dot _ _ = 𝟘
