@@ -63,7 +63,7 @@ def grep(pattern):
     wanted = re.compile(pattern)
     for path in SOURCES:
         for i, line in enumerate(path.read_text().split("\n")):
-            if wanted.search(line):
+            if wanted.search(line) and not line.lstrip().startswith("//"):
                 yield f"{name_of(path)}:{i + 1}: {line.strip()}"
 
 
