@@ -40,7 +40,6 @@ def functions(root):
             head = HEAD.match(line)
             if not head:
                 continue
-            end = re.compile("^" + head[1] + r"\}|^.*\{\}$|.*[};];$")
             text = []
             for k in range(i, len(lines)):
                 text.append(lines[k])

@@ -52,6 +52,7 @@ fn put_section(
     numbers: u8,
 ) -> Result<(), AllocError> {
     put_count(bytes, n)?;
+    // As many times the same, with nothing to walk.
     for _ in 0..n {
         if let Some(c) = code {
             bytes.push(c)?;

@@ -59,6 +59,7 @@ impl<T: Scalar> Row<T> for Row4<T> {
     }
 }
 
+// Here and below the factors stand apart: they are of no one row.
 // a b - c d
 pub fn cross<T: Scalar>(a: T, b: T, c: T, d: T) -> T
     ensures { result ≡ cross_of T.ops a b c d }

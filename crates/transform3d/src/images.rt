@@ -112,7 +112,7 @@ impl<T: Ordered, Src: Copy, Dst: Copy> Transform3D<T, Src, Dst> {
         Some(grown)
     }
 
-    // The same of the two corners of `b` at `x` and `y`.
+    // The same of the two corners of `b` at `x` and `y`, which may be of two corners and so are no point.
     fn take_in_edge(
         &self,
         outer: Box3D<T, Dst>,
