@@ -54,7 +54,7 @@ impl<'a> Cursor<'a> {
     }
 
     // The next byte, for the item that begins at `item`.
-    pub(crate) fn byte(self, item: usize) -> Result<(u8, Cursor<'a>), ReaderFault>
+    pub fn byte(self, item: usize) -> Result<(u8, Cursor<'a>), ReaderFault>
         ensures { MatchResult result (λ p. Reads (p.0 ∷ []) self.entry p.1) (λ f. (f ≡ ReaderFault.Short item) × (length self.entry.rest.now < 1)) }
     {
         let ([byte], after) = self.bytes::<1>(item)?;
@@ -77,14 +77,14 @@ impl<'a> Cursor<'a> {
         Ok((i32::from_le_bytes(bytes), after))
     }
 
-    // A count of at most `limit`.
+    // A count of at most `limit`, which begins at `item`.
     #[tactic(auto, using(crate::proofs::Refusals::refusals))]
-    pub fn count(self, limit: u16) -> Result<(u16, Cursor<'a>), ReaderFault>
-        ensures { MatchResult result (λ p. (p.0 ≤ limit) × Reads (two p.0) self.entry p.1) (λ f. BadCount limit self.entry.rest.now self.entry.at f) }
+    pub fn count(self, item: usize, limit: u16) -> Result<(u16, Cursor<'a>), ReaderFault>
+        ensures { MatchResult result (λ p. (p.0 ≤ limit) × Reads (two p.0) self.entry p.1) (λ f. BadCount limit self.entry.rest.now item f) }
     {
-        let (n, after) = self.unsigned(self.at)?;
+        let (n, after) = self.unsigned(item)?;
         if n > limit {
-            return Err(ReaderFault::TooMany(self.at));
+            return Err(ReaderFault::TooMany(item));
         }
         Ok((n, after))
     }

@@ -21,19 +21,19 @@ pub trait Item: Sized {
     fn limit() -> u16
         ensures { result ≡ kind.limit };
 
-    // The item that begins at `from`, the `index`-th of its section, and the place after it.
-    fn read(from: Cursor<'_>, index: usize) -> Result<(Self, Cursor<'_>), Fault>
-        ensures { MatchResult result (λ p. kind.Good p.0 × Reads (kind.bytes p.0) from.entry p.1) (λ f. kind.Bad from.entry.rest.now from.entry.at index f) };
+    // The item at the cursor, the `index`-th of its section, and the cursor behind it. A fault names `item` as the place where it begins.
+    fn read(from: Cursor<'_>, item: usize, index: usize) -> Result<(Self, Cursor<'_>), Fault>
+        ensures { MatchResult result (λ p. kind.Good p.0 × Reads (kind.bytes p.0) from.entry p.1) (λ f. kind.Bad from.entry.rest.now item index f) };
 }
 
-// The code that a step begins with.
+// The code of the step that begins at `item`.
 #[tactic(auto, using(crate::proofs::Refusals::refusals))]
-fn code(from: Cursor<'_>) -> Result<(StepCode, Cursor<'_>), ReaderFault>
-    ensures { MatchResult result (λ p. Reads (step_byte p.0 ∷ []) from.entry p.1) (λ f. BadStep from.entry.rest.now from.entry.at f) }
+fn code(from: Cursor<'_>, item: usize) -> Result<(StepCode, Cursor<'_>), ReaderFault>
+    ensures { MatchResult result (λ p. Reads (step_byte p.0 ∷ []) from.entry p.1) (λ f. BadStep from.entry.rest.now item f) }
 {
-    let (byte, after) = from.byte(from.at())?;
+    let (byte, after) = from.byte(item)?;
     let Ok(code) = StepCode::try_from(byte) else {
-        return Err(ReaderFault::UnknownCode(from.at()));
+        return Err(ReaderFault::UnknownCode(item));
     };
     Ok((code, after))
 }
@@ -66,15 +66,15 @@ impl Item for Step {
     }
 
     #[tactic(auto, using(crate::proofs::Refusals::refusals))]
-    fn read(from: Cursor<'_>, _index: usize) -> Result<(Step, Cursor<'_>), Fault> {
-        let (code, after) = code(from)?;
+    fn read(from: Cursor<'_>, item: usize, _index: usize) -> Result<(Step, Cursor<'_>), Fault> {
+        let (code, after) = code(from, item)?;
         match code {
             StepCode::Then(kind) => {
-                let (form, after) = form(kind, after, from.at())?;
+                let (form, after) = form(kind, after, item)?;
                 Ok((Step::Then(form), after))
             }
             StepCode::Before(kind) => {
-                let (form, after) = form(kind, after, from.at())?;
+                let (form, after) = form(kind, after, item)?;
                 Ok((Step::Before(form), after))
             }
             StepCode::Undo => Ok((Step::Undo, after)),
@@ -89,8 +89,8 @@ impl Item for Point {
         MOST_POINTS
     }
 
-    fn read(from: Cursor<'_>, _index: usize) -> Result<(Point, Cursor<'_>), Fault> {
-        let ([x, y, z], after) = from.numbers::<3>(from.at())?;
+    fn read(from: Cursor<'_>, item: usize, _index: usize) -> Result<(Point, Cursor<'_>), Fault> {
+        let ([x, y, z], after) = from.numbers::<3>(item)?;
         Ok((Point { x, y, z }, after))
     }
 }
@@ -114,8 +114,8 @@ impl Item for Frame {
         MOST_FRAMES
     }
 
-    fn read(from: Cursor<'_>, index: usize) -> Result<(Frame, Cursor<'_>), Fault> {
-        let ([min_x, min_y, max_x, max_y], after) = from.numbers::<4>(from.at())?;
+    fn read(from: Cursor<'_>, item: usize, index: usize) -> Result<(Frame, Cursor<'_>), Fault> {
+        let ([min_x, min_y, max_x, max_y], after) = from.numbers::<4>(item)?;
         let frame = Frame {
             min_x,
             min_y,

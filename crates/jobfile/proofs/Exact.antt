@@ -15,7 +15,7 @@ use Rattle.jobfile.specs.Items.{two, fraction_bytes, Sound, Numbers, BadNumbers,
 pub two_same : (m n : ℕ) → m < 65536 → n < 65536 → two m ≡ two n → m ≡ n
 two_same m n p q e = sym (from_le_bytes-to_le_bytes_2 m p) ∙ ap (from_le_bytes w16) e ∙ from_le_bytes-to_le_bytes_2 n q
 
-fraction_cut : (f g : Fraction) (r s : List ℕ) → Sound f → Sound g → fraction_bytes f ++ r ≡ fraction_bytes g ++ s → (f ≡ g) × (r ≡ s)
+pub fraction_cut : (f g : Fraction) (r s : List ℕ) → Sound f → Sound g → fraction_bytes f ++ r ≡ fraction_bytes g ++ s → (f ≡ g) × (r ≡ s)
 unfolding fraction_bytes
 fraction_cut f g r s p q e =
     let m = of_z w32 f.num in
