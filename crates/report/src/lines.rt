@@ -61,13 +61,26 @@ impl Page {
         }
     }
 
-    // The word and the index that a line begins with.
+    // An index. Most are short.
+    fn put_index(&mut self, i: usize)
+        requires { 20 ≤ self.old.room }
+        ensures { Adds self.old self.new (decimal i) 20 }
+    {
+        if i < 100 {
+            self.put_short(i as u8);
+        } else {
+            self.put_number(i);
+        }
+    }
+
+    // The word and the index that a line begins with. Inlined, since each word is a constant, whose copy is then no call.
+    #[inline(always)]
     fn put_head(&mut self, word: &str, i: usize)
         requires { length word.now + 20 ≤ self.old.room }
         ensures { Adds self.old self.new (word.now ++ decimal i) (length word.now + 20) }
     {
         self.put(word);
-        self.put_number(i);
+        self.put_index(i);
     }
 
     // A line of numbers.

@@ -1,5 +1,6 @@
 // Numbers of the file, as they are shown.
 ghost use Rattle.std.specs.Prelude.{◌≡◌, ◌*◌, ◌≤◌, length, ℤ};
+ghost use Rattle.std.specs.Fmt.{signed_decimal};
 ghost use Rattle.integers.specs.declared.fraction.Fraction.{Fraction};
 ghost use Rattle.report.specs.Sheet.{Adds};
 ghost use Rattle.report.specs.Text.{numbers_text, residue_value, pixel_value};
@@ -34,6 +35,18 @@ impl Shown for Pixel {
 }
 
 impl Page {
+    // What a scalar shows.
+    fn put_value(&mut self, z: i32)
+        requires { 11 ≤ self.old.room }
+        ensures { Adds self.old self.new (signed_decimal z) 11 }
+    {
+        if z >= 0 && z < 100 {
+            self.put_short(z as u8);
+        } else {
+            self.put_number(z);
+        }
+    }
+
     // The numbers, with a blank before each.
     pub fn put_numbers<S: Shown>(&mut self, fs: &[Fraction])
         requires { 12 * length fs.now ≤ self.old.room }
@@ -41,7 +54,7 @@ impl Page {
     {
         for f in fs {
             self.put(" ");
-            self.put_number(S::shown(*f));
+            self.put_value(S::shown(*f));
         }
     }
 }

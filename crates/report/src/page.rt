@@ -1,5 +1,5 @@
 // Text that grows within the room that was asked for at first, so that writing it never wants memory.
-ghost use Rattle.std.specs.Prelude.{◌≡◌, ◌≤◌, [], length, IfOk, string_bytes};
+ghost use Rattle.std.specs.Prelude.{◌≡◌, ◌<◌, ◌≤◌, [], length, decimal, IfOk, string_bytes};
 ghost use Rattle.report.specs.Sheet.{Adds};
 
 use itoa::{Buffer, Integer};
@@ -45,6 +45,30 @@ impl Page {
         ensures { Adds self.old self.new (I.text n) I.MAX_STR_LEN }
     {
         self.put(Buffer::new().format(n));
+    }
+
+    #[tactic(auto, using(std::proofs::lemmas::Fmt::decimal_digit))]
+    fn put_digit(&mut self, digit: u8)
+        requires digit { digit < 10 }
+        requires room { 1 ≤ self.old.room }
+        ensures { Adds self.old self.new (decimal digit) 1 }
+    {
+        // It cannot fail, since there is room.
+        let _ = self.text.push((b'0' + digit) as char);
+    }
+
+    // A number of one digit or two by hand: itoa's buffer and the copy from it take longer than so few digits.
+    pub fn put_short(&mut self, n: u8)
+        requires short { n < 100 }
+        requires room { 2 ≤ self.old.room }
+        ensures { Adds self.old self.new (decimal n) 2 }
+    {
+        if n < 10 {
+            self.put_digit(n);
+        } else {
+            self.put_digit(n / 10);
+            self.put_digit(n % 10);
+        }
     }
 
     pub fn into_text(self) -> String
