@@ -20,50 +20,49 @@ use question::Question;
 use refusal::{Fault, Refusal};
 use residues::types::Residue;
 use std::alloc::Global;
-use std::io;
 use std::io::{BufRead, BufReader, BufWriter, Write};
 use std::str::{SplitAsciiWhitespace, from_utf8};
+use std::{io, mem};
 
-fn answer(question: &[u8], heap: Global) -> Result<String, Fault> {
+// Adds to `line`, which is empty, what the question is answered.
+fn answer(question: &[u8], heap: Global, line: &mut String) -> Result<(), Fault> {
     let text = from_utf8(question).map_err(|_| Refusal::NotText)?;
     let mut words = text.split_ascii_whitespace();
     let (Some(scalar), Some(function)) = (words.next(), words.next()) else {
         return Err(Refusal::ShortLine.into());
     };
     match scalar {
-        "Real" => answer_over::<Real>(function, words, heap),
-        "Count" => answer_over::<Count>(function, words, heap),
-        "Residue" => answer_over::<Residue>(function, words, heap),
-        "Pixel" => answer_over::<Pixel>(function, words, heap),
-        "Whole" => answer_over::<Whole>(function, words, heap),
+        "Real" => answer_over::<Real>(function, words, heap, line),
+        "Count" => answer_over::<Count>(function, words, heap, line),
+        "Residue" => answer_over::<Residue>(function, words, heap, line),
+        "Pixel" => answer_over::<Pixel>(function, words, heap, line),
+        "Whole" => answer_over::<Whole>(function, words, heap, line),
         _ => Err(Refusal::UnknownScalar.into()),
     }
 }
 
-// No function takes more numbers but a `from_points`.
-const MOST_NUMBERS: usize = 32;
-
-// Some, and the 16 Reals of a Transform3D.
-const LONGEST_ANSWER: usize = 276;
-
-// Answers what the function of this name answers for the numbers that the words are.
+// Adds what the function of this name answers for the numbers that the words are.
 fn answer_over<T: Orderable>(
     function: &str,
     words: SplitAsciiWhitespace<'_>,
     heap: Global,
-) -> Result<String, Fault> {
-    let mut numbers = Vec::with_capacity(heap, MOST_NUMBERS)?;
+    line: &mut String,
+) -> Result<(), Fault> {
+    let mut numbers = Vec::new(heap);
     for word in words {
         numbers.push(T::read(word).ok_or(Refusal::BadNumber)?)?;
     }
     let mut question = Question {
         function,
         numbers: numbers.as_slice(),
-        answer: String::with_capacity(heap, LONGEST_ANSWER)?,
+        answer: mem::replace(line, String::new(heap)),
     };
-    table::ask(&mut question)?;
-    if question.numbers.is_empty() {
-        Ok(question.answer)
+    let asked = table::ask(&mut question);
+    let all_taken = question.numbers.is_empty();
+    *line = question.answer;
+    asked?;
+    if all_taken {
+        Ok(())
     } else {
         Err(Refusal::TooManyNumbers.into())
     }
@@ -71,11 +70,19 @@ fn answer_over<T: Orderable>(
 
 fn main(rt: HostRuntime) -> io::Result<()> {
     let heap = rt.alloc();
-    let input = BufReader::new(heap, rt.stdin())?;
+    let mut input = BufReader::new(heap, rt.stdin())?;
     let mut output = BufWriter::new(heap, rt.stdout())?;
-    for question in input.split(heap, b'\n') {
-        match answer(question?.as_slice(), heap) {
-            Ok(answer) => writeln!(output, "{answer}")?,
+    // Both are used again for each question: asking for memory for each takes half as long again as an empty line (docs/DESIGN-PASS.md).
+    let mut question: Vec<u8> = Vec::new(heap);
+    let mut line = String::new(heap);
+    for _ in 0..u64::MAX {
+        question.clear();
+        line.clear();
+        if input.read_until(b'\n', &mut question)? == 0 {
+            break;
+        }
+        match answer(question.as_slice(), heap, &mut line) {
+            Ok(()) => writeln!(output, "{line}")?,
             Err(Fault::Refused(refusal)) => writeln!(output, "{refusal}")?,
             Err(Fault::Memory(e)) => return Err(e.into()),
         }
