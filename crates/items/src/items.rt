@@ -21,9 +21,16 @@ pub trait Item: Sized {
     fn limit() -> u16
         ensures { result ≡ kind.limit };
 
+    // The item that begins at `from`, the `index`-th of its section, and the place after it.
+    fn read(from: Cursor<'_>, index: usize) -> Result<(Self, Cursor<'_>), Fault>
+        ensures { MatchResult result (λ p. kind.Good p.0 × Reads (kind.bytes p.0) from.entry p.1) (λ f. kind.Bad from.entry.rest.now from.entry.at index f) };
+}
+
+// An item that can be read as if its bytes stood at any place. Apart from `Item`, since what an item's faults say may hold at the cursor's own place alone.
+pub trait PlacedItem: Item {
     // The item at the cursor, the `index`-th of its section, and the cursor behind it. A fault names `item` as the place where it begins.
-    fn read(from: Cursor<'_>, item: usize, index: usize) -> Result<(Self, Cursor<'_>), Fault>
-        ensures { MatchResult result (λ p. kind.Good p.0 × Reads (kind.bytes p.0) from.entry p.1) (λ f. kind.Bad from.entry.rest.now item index f) };
+    fn read_at(from: Cursor<'_>, item: usize, index: usize) -> Result<(Self, Cursor<'_>), Fault>
+        ensures { MatchResult result (λ p. Self.kind.Good p.0 × Reads (Self.kind.bytes p.0) from.entry p.1) (λ f. Self.kind.Bad from.entry.rest.now item index f) };
 }
 
 // The code of the step that begins at `item`.
@@ -65,8 +72,14 @@ impl Item for Step {
         MOST_STEPS
     }
 
+    fn read(from: Cursor<'_>, index: usize) -> Result<(Step, Cursor<'_>), Fault> {
+        Step::read_at(from, from.at(), index)
+    }
+}
+
+impl PlacedItem for Step {
     #[tactic(auto, using(crate::proofs::Refusals::refusals))]
-    fn read(from: Cursor<'_>, item: usize, _index: usize) -> Result<(Step, Cursor<'_>), Fault> {
+    fn read_at(from: Cursor<'_>, item: usize, _index: usize) -> Result<(Step, Cursor<'_>), Fault> {
         let (code, after) = code(from, item)?;
         match code {
             StepCode::Then(kind) => {
@@ -89,7 +102,13 @@ impl Item for Point {
         MOST_POINTS
     }
 
-    fn read(from: Cursor<'_>, item: usize, _index: usize) -> Result<(Point, Cursor<'_>), Fault> {
+    fn read(from: Cursor<'_>, index: usize) -> Result<(Point, Cursor<'_>), Fault> {
+        Point::read_at(from, from.at(), index)
+    }
+}
+
+impl PlacedItem for Point {
+    fn read_at(from: Cursor<'_>, item: usize, _index: usize) -> Result<(Point, Cursor<'_>), Fault> {
         let ([x, y, z], after) = from.numbers::<3>(item)?;
         Ok((Point { x, y, z }, after))
     }
@@ -114,7 +133,13 @@ impl Item for Frame {
         MOST_FRAMES
     }
 
-    fn read(from: Cursor<'_>, item: usize, index: usize) -> Result<(Frame, Cursor<'_>), Fault> {
+    fn read(from: Cursor<'_>, index: usize) -> Result<(Frame, Cursor<'_>), Fault> {
+        Frame::read_at(from, from.at(), index)
+    }
+}
+
+impl PlacedItem for Frame {
+    fn read_at(from: Cursor<'_>, item: usize, index: usize) -> Result<(Frame, Cursor<'_>), Fault> {
         let ([min_x, min_y, max_x, max_y], after) = from.numbers::<4>(item)?;
         let frame = Frame {
             min_x,

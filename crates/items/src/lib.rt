@@ -4,3 +4,5 @@
 mod codes;
 pub mod cursor;
 pub mod items;
+#[cfg(test)]
+mod tests;

@@ -2,7 +2,7 @@ use Rattle.std.proofs.Common.{refl, arith}
 use Rattle.std.proofs.lemmas.Result.{err_from_is_err_and}
 use Rattle.std.proofs.lemmas.Grind.{common_steps}
 use Rattle.items.proofs.Bytes.{turned}
-use Rattle.items.proofs.items.FrameItem.read.Goals as goal
+use Rattle.items.proofs.items.FramePlacedItem.read_at.Goals as goal
 
 pub returns-in_err-upright : goal.returns-in_err-upright
 returns-in_err-upright c =
