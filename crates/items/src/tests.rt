@@ -1,7 +1,8 @@
 // Items read at the place where a cursor stands, and as if they stood at another.
 use crate::cursor::Cursor;
 use crate::items::{Item, PlacedItem};
-use jobfile::faults::{Fault, FrameFault, ReaderFault};
+use jobfile::faults::Fault;
+use jobfile::notice::Notice;
 use jobfile::parts::{Form, Frame, Point, Step};
 use std::process::Abort;
 
@@ -13,33 +14,27 @@ fn behind_count<'a>(rt: &impl Abort, file: &'a [u8]) -> Cursor<'a> {
     after
 }
 
+// The number and the place of a refusal.
+fn refusal<I: Drop>(read: Result<(I, Cursor<'_>), Fault>) -> Option<(u8, usize)> {
+    let notice = Notice::from(read.err()?);
+    Some((notice.number, notice.place))
+}
+
 #[test]
 fn a_step_is_read_where_its_cursor_stands(rt: HostRuntime) {
     let from = behind_count(
         &rt,
         b"\x02\x00\
         \x01\x03\x00\x00\x00\x02\x00\x02\x00\x00\x00\x01\x00\x0a\x00\x00\x00\x01\x00\xfc\xff\xff\xff\x01\x00\
-        \x20",
+        \x63",
     );
     let Ok((step, after)) = Step::read(from, 0) else {
         panic!(rt; "the step is not read");
     };
     assert!(rt; matches!(step, Step::Then(Form::ScaleOffset(_))));
     assert_eq!(rt; after.at(), 27);
-    assert!(rt; matches!(Step::read(after, 1), Ok((Step::Undo, end)) if end.at() == 28));
-    let unknown = behind_count(&rt, b"\x01\x00\x63");
-    assert!(rt;
-        matches!(
-            Step::read(unknown, 0),
-            Err(Fault::Reader(ReaderFault::UnknownCode(2)))
-        )
-    );
-    assert!(rt;
-        matches!(
-            Step::read_at(unknown, 27, 0),
-            Err(Fault::Reader(ReaderFault::UnknownCode(27)))
-        )
-    );
+    assert_eq!(rt; refusal(Step::read(after, 1)), Some((3, 27)));
+    assert_eq!(rt; refusal(Step::read_at(after, 2, 1)), Some((3, 2)));
 }
 
 #[test]
@@ -53,22 +48,10 @@ fn a_point_is_read_where_its_cursor_stands(rt: HostRuntime) {
     let Ok((point, after)) = Point::read(from, 0) else {
         panic!(rt; "the point is not read");
     };
-    assert_eq!(rt;
-        (point.x.num, point.y.num, point.z.num, after.at()),
-        (4, 5, 0, 20)
-    );
-    assert!(rt;
-        matches!(
-            Point::read(after, 1),
-            Err(Fault::Reader(ReaderFault::Short(20)))
-        )
-    );
-    assert!(rt;
-        matches!(
-            Point::read_at(after, 2, 1),
-            Err(Fault::Reader(ReaderFault::Short(2)))
-        )
-    );
+    assert_eq!(rt; (point.x.num, point.y.num, point.z.num), (4, 5, 0));
+    assert_eq!(rt; after.at(), 20);
+    assert_eq!(rt; refusal(Point::read(after, 1)), Some((1, 20)));
+    assert_eq!(rt; refusal(Point::read_at(after, 2, 1)), Some((1, 2)));
 }
 
 #[test]
@@ -82,17 +65,9 @@ fn a_frame_is_read_where_its_cursor_stands(rt: HostRuntime) {
     let Ok((frame, after)) = Frame::read(from, 0) else {
         panic!(rt; "the frame is not read");
     };
-    assert_eq!(rt; (frame.min_x.num, frame.max_x.num, after.at()), (0, 2, 26));
-    assert!(rt;
-        matches!(
-            Frame::read(after, 7),
-            Err(Fault::Frame(FrameFault::Backwards(7)))
-        )
-    );
-    assert!(rt;
-        matches!(
-            Frame::read_at(after, 2, 7),
-            Err(Fault::Frame(FrameFault::Backwards(7)))
-        )
-    );
+    assert_eq!(rt; (frame.min_x.num, frame.max_x.num), (0, 2));
+    assert_eq!(rt; after.at(), 26);
+    // By its index, wherever it stands.
+    assert_eq!(rt; refusal(Frame::read(after, 7)), Some((6, 7)));
+    assert_eq!(rt; refusal(Frame::read_at(after, 2, 7)), Some((6, 7)));
 }
